@@ -1,0 +1,20 @@
+-- Laws of sums, of tests and of lists; then the proof of each theorem of specs/, in the file of its name, after what it rests on.
+pub mod Below
+pub mod Sums
+pub mod Decide
+pub mod Agree
+pub mod Lists
+pub mod HeldPrices
+pub mod WeakDuality
+pub mod Tightness
+pub mod Share
+pub mod ComplementarySlackness
+pub mod Exchange
+pub mod Bid
+pub mod Settlement
+pub mod Rounding
+pub mod StrongDuality
+pub mod EqualExactlyWhenBest
+pub mod GreatestWeight
+pub mod TestsDecide
+pub mod PriceSteps

@@ -1,0 +1,33 @@
+-- Lists and their cells.
+use mathlib.Core.Path.{_≡_, refl, ap, _∙_, fun-ext}
+use mathlib.Core.List.{List, [], _∷_}
+use Prim.Native.Nat.{ℕ, zero, suc, _+_, _<_}
+use native.Mathlib.Nat.{le-of-suc-le-suc, not-suc-le-zero}
+use lib.ListN.{length, set}
+use lib.Seq.{getD-set-same, getD-set-other}
+use Rattle.duality.specs.Sums.{sumTo, upd}
+use Rattle.duality.specs.Lists.{cells, sum}
+use Rattle.duality.proofs.Sums.{sumTo-head, upd-all}
+
+-- The sum of a list is that of its cells
+pub sum-cells : (l : List ℕ) → sumTo (length l) (cells l) ≡ sum l
+sum-cells [] = refl
+sum-cells (x ∷ xs) = sumTo-head (length xs) (cells (x ∷ xs)) ∙ ap (λ z. x + z) (sum-cells xs)
+
+-- A store into a list changes its cells at one place
+pub cells-set : (l : List ℕ) (i v : ℕ) → i < length l → cells (set l i v) ≡ upd i v (cells l)
+cells-set l i v h = fun-ext (upd-all (λ j u. cells (set l i v) j ≡ u) i v (cells l) (getD-set-same l i v 0 h) (λ j ne. getD-set-other l i j v 0 ne))
+
+-- The first n values of f, as a list
+abbrev pub tab : ℕ → (ℕ → ℕ) → List ℕ
+tab zero f = []
+tab (suc n) f = f 0 ∷ tab n (λ i. f (suc i))
+
+pub length-tab : (n : ℕ) (f : ℕ → ℕ) → length (tab n f) ≡ n
+length-tab zero f = refl
+length-tab (suc n) f = ap suc (length-tab n (λ i. f (suc i)))
+
+pub cells-tab : (n : ℕ) (f : ℕ → ℕ) (i : ℕ) → i < n → cells (tab n f) i ≡ f i
+cells-tab zero f i l = absurd (not-suc-le-zero l)
+cells-tab (suc n) f zero l = refl
+cells-tab (suc n) f (suc i) l = cells-tab n (λ x. f (suc x)) i (le-of-suc-le-suc l)

@@ -1,0 +1,99 @@
+//! The text, read in one pass, and the printing.
+
+use super::auction::Auction;
+use super::exact::greatest_weight;
+use std::io::Write;
+
+pub const MAX_TEXT: usize = 65_536;
+const MAX_DIGITS: usize = 7;
+
+/// A refusal's number, at the line that the reader has reached.
+type Number = u32;
+
+struct Reader<'a> {
+    text: &'a [u8],
+    at: usize,
+    line: usize,
+}
+
+impl Reader<'_> {
+    fn byte(&mut self) -> Option<u8> {
+        let byte = *self.text.get(self.at)?;
+        self.at += 1;
+        Some(byte)
+    }
+
+    /// The letter and the numbers of the next line, if it has the form of one.
+    fn record(&mut self, numbers: &mut Vec<u32>) -> Option<u8> {
+        self.line += 1;
+        numbers.clear();
+        let letter = self.byte()?;
+        loop {
+            match self.byte()? {
+                b'\t' => numbers.push(self.number()?),
+                b'\n' => return Some(letter),
+                _ => return None,
+            }
+        }
+    }
+
+    fn number(&mut self) -> Option<u32> {
+        let start = self.at;
+        let mut value = 0;
+        while let Some(digit) = self.text.get(self.at).filter(|b| b.is_ascii_digit()) {
+            if self.at - start == MAX_DIGITS {
+                return None;
+            }
+            value = value * 10 + (digit - b'0') as u32;
+            self.at += 1;
+        }
+        let digits = self.at - start;
+        let leading = digits > 1 && self.text[start] == b'0';
+        (digits > 0 && !leading).then_some(value)
+    }
+}
+
+/// What the program prints for this text.
+pub fn sheet(text: &[u8]) -> Vec<u8> {
+    let mut out = Vec::with_capacity(8_192);
+    let mut reader = Reader { text, at: 0, line: 0 };
+    match replay(&mut reader) {
+        Ok((auction, bids)) => report(&auction, bids, &mut out),
+        Err(number) => writeln!(out, "R\t{number}\t{}", reader.line),
+    }
+    .expect("a vector takes every byte");
+    out
+}
+
+fn replay(reader: &mut Reader) -> Result<(Box<Auction>, u64), Number> {
+    if reader.text.len() > MAX_TEXT {
+        return Err(15);
+    }
+    let mut numbers = Vec::with_capacity(128);
+    let mut auction = match (reader.record(&mut numbers), numbers.as_slice()) {
+        (Some(b'K'), &[items, p, q]) => Box::new(Auction::open(items, p, q)?),
+        _ => return Err(14),
+    };
+    let mut bids = 0;
+    while reader.at < reader.text.len() {
+        bids += match (reader.record(&mut numbers), numbers.as_slice()) {
+            (Some(b'A'), pairs) if pairs.len() % 2 == 0 => auction.arrive(pairs)?,
+            (Some(b'W'), &[item]) => auction.withdraw(item)?,
+            _ => return Err(14),
+        };
+    }
+    Ok((auction, bids))
+}
+
+fn report(auction: &Auction, bids: u64, out: &mut Vec<u8>) -> std::io::Result<()> {
+    let matching = auction.matching();
+    let rows = matching.iter().zip(&auction.gain).take(auction.arrived);
+    for (bidder, (item, gain)) in rows.enumerate() {
+        writeln!(out, "P\t{}\t{item}\t{gain}", bidder + 1)?;
+    }
+    for item in (0..auction.items).filter(|&i| !auction.withdrawn[i]) {
+        writeln!(out, "Y\t{}\t{}", item + 1, auction.price[item])?;
+    }
+    writeln!(out, "T\t{}\t{}\t{bids}", auction.weight(), auction.sum())?;
+    writeln!(out, "E\t{}", greatest_weight(auction))
+}

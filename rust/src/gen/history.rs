@@ -1,0 +1,263 @@
+//! Random histories: an opening and the calls after it.
+
+use crate::model::auction::*;
+use crate::rng::Rng;
+
+#[derive(Clone, Debug)]
+pub enum Call {
+    Arrive(Vec<Edge>),
+    Withdraw(u64),
+}
+
+#[derive(Clone, Debug)]
+pub struct History {
+    pub items: u64,
+    pub slack: Slack,
+    pub calls: Vec<Call>,
+}
+
+/// In every kind but `Refused` each call is served.
+#[derive(Clone, Copy, Debug, PartialEq, Eq)]
+pub enum Kind {
+    Small,
+    Sparse,
+    Dense,
+    Ties,
+    Limits,
+    Withdrawals,
+    Refused,
+}
+
+impl Kind {
+    pub const ALL: [Kind; 7] = [
+        Kind::Small,
+        Kind::Sparse,
+        Kind::Dense,
+        Kind::Ties,
+        Kind::Limits,
+        Kind::Withdrawals,
+        Kind::Refused,
+    ];
+}
+
+/// What a kind fixes about its histories.
+struct Shape {
+    items: u64,
+    slack: Slack,
+    calls: u64,
+    /// Edges that a bidder has, of the live items.
+    most_edges: u64,
+    weights: Weights,
+    /// Withdrawals and bad calls, of 100 calls.
+    withdrawals: u64,
+    refused: u64,
+}
+
+#[derive(Clone, Copy)]
+enum Weights {
+    UpTo(u64),
+    Among(&'static [u64]),
+    /// Within 10 of either limit.
+    Ends,
+}
+
+pub fn history(rng: &mut Rng, kind: Kind) -> History {
+    let shape = shape(rng, kind);
+    let mut withdrawn = vec![false; shape.items as usize];
+    let mut arrived = 0;
+    let mut calls = Vec::new();
+    for _ in 0..shape.calls {
+        if rng.chance(shape.refused, 100) {
+            calls.push(bad_call(rng, &shape, &withdrawn));
+        } else if rng.chance(shape.withdrawals, 100) {
+            if let Some(item) = one_of(rng, &live_items(&withdrawn)) {
+                withdrawn[item as usize - 1] = true;
+                calls.push(Call::Withdraw(item));
+            }
+        } else if arrived < MAX_BIDDERS || kind == Kind::Refused {
+            arrived += 1;
+            calls.push(Call::Arrive(edges(rng, &shape, &withdrawn)));
+        }
+    }
+    History { items: shape.items, slack: shape.slack, calls }
+}
+
+fn shape(rng: &mut Rng, kind: Kind) -> Shape {
+    match kind {
+        Kind::Small => small(rng),
+        Kind::Sparse => sparse(rng),
+        Kind::Dense => dense(rng),
+        Kind::Ties => ties(rng),
+        Kind::Limits => limits(rng),
+        Kind::Withdrawals => withdrawals(rng),
+        Kind::Refused => refused(rng),
+    }
+}
+
+fn small(rng: &mut Rng) -> Shape {
+    Shape {
+        items: rng.range(1, 4),
+        slack: slack_to(rng, 10),
+        calls: rng.range(0, 9),
+        most_edges: 4,
+        weights: Weights::UpTo(20),
+        withdrawals: 15,
+        refused: 0,
+    }
+}
+
+fn sparse(rng: &mut Rng) -> Shape {
+    Shape {
+        items: rng.range(5, 64),
+        slack: slack_to(rng, 100),
+        calls: rng.range(1, 100),
+        weights: Weights::UpTo(1_000),
+        withdrawals: 5,
+        ..small(rng)
+    }
+}
+
+fn dense(rng: &mut Rng) -> Shape {
+    Shape {
+        items: rng.range(2, 20),
+        slack: slack_to(rng, 50),
+        calls: rng.range(1, 40),
+        most_edges: 64,
+        weights: Weights::UpTo(9_999),
+        withdrawals: 3,
+        refused: 0,
+    }
+}
+
+fn ties(rng: &mut Rng) -> Shape {
+    Shape {
+        items: rng.range(2, 10),
+        slack: Slack { p: 1, q: rng.pick(&[2, 3, 5, 10]) },
+        calls: rng.range(1, 25),
+        most_edges: 10,
+        weights: Weights::Among(&[5, 10, 10, 20]),
+        withdrawals: 10,
+        refused: 0,
+    }
+}
+
+fn withdrawals(rng: &mut Rng) -> Shape {
+    Shape {
+        items: rng.range(8, 40),
+        slack: slack_to(rng, 20),
+        calls: rng.range(10, 80),
+        most_edges: 12,
+        weights: Weights::UpTo(300),
+        withdrawals: 45,
+        refused: 0,
+    }
+}
+
+fn refused(rng: &mut Rng) -> Shape {
+    Shape {
+        items: rng.pick(&[1, 3, 8, 64]),
+        calls: rng.pick(&[5, 20, 60, 260]),
+        weights: Weights::UpTo(200),
+        withdrawals: 12,
+        refused: 40,
+        ..small(rng)
+    }
+}
+
+fn limits(rng: &mut Rng) -> Shape {
+    let (p, q) = rng.pick(&[(1, 1_000), (999, 1_000), (1, 2), (500, 999), (7, 1_000)]);
+    Shape {
+        items: rng.range(63, 64),
+        slack: Slack { p, q },
+        calls: rng.range(120, 135),
+        most_edges: if p == 1 && q > 2 { 3 } else { rng.pick(&[2, 16, 64]) },
+        weights: Weights::Ends,
+        withdrawals: rng.pick(&[0, 3]),
+        refused: 0,
+    }
+}
+
+fn slack_to(rng: &mut Rng, most: u64) -> Slack {
+    let q = rng.range(2, most);
+    let p = rng.range(1, q - 1);
+    Slack { p: rng.pick(&[1, 1, p]), q }
+}
+
+fn one_of(rng: &mut Rng, items: &[u64]) -> Option<u64> {
+    (!items.is_empty()).then(|| rng.pick(items))
+}
+
+fn live_items(withdrawn: &[bool]) -> Vec<u64> {
+    let live = withdrawn.iter().enumerate().filter(|(_, &gone)| !gone);
+    live.map(|(item, _)| item as u64 + 1).collect()
+}
+
+fn weight(rng: &mut Rng, weights: Weights) -> u64 {
+    match weights {
+        Weights::UpTo(most) => rng.range(1, most),
+        Weights::Among(list) => rng.pick(list),
+        Weights::Ends if rng.chance(1, 3) => rng.range(1, 10),
+        Weights::Ends => rng.range(MAX_WEIGHT - 10, MAX_WEIGHT),
+    }
+}
+
+fn edges(rng: &mut Rng, shape: &Shape, withdrawn: &[bool]) -> Vec<Edge> {
+    let mut items = live_items(withdrawn);
+    rng.shuffle(&mut items);
+    let full = shape.most_edges >= 64 && rng.chance(3, 4);
+    let most = shape.most_edges.min(items.len() as u64);
+    items.truncate(if full { items.len() } else { rng.range(0, most) as usize });
+    items.sort();
+    items.into_iter().map(|item| Edge { item, weight: weight(rng, shape.weights) }).collect()
+}
+
+const STRANGE: [u64; 10] = [0, 65, 66, 127, 255, 256, 65_536, 1 << 32, 1 << 63, u64::MAX];
+const BAD_WEIGHTS: [u64; 5] = [0, 1_000_001, 9_999_999, 1 << 32, u64::MAX];
+
+/// A call that is refused, but for an arrival without edges.
+fn bad_call(rng: &mut Rng, shape: &Shape, withdrawn: &[bool]) -> Call {
+    let any = rng.range(0, shape.items + 1);
+    let gone = (1..=shape.items).filter(|&i| withdrawn[i as usize - 1]).collect::<Vec<u64>>();
+    let bad_item = match rng.below(3) {
+        0 => rng.pick(&STRANGE),
+        1 => rng.pick(&[0, shape.items + 1]),
+        _ => one_of(rng, &gone).unwrap_or(any),
+    };
+    if rng.chance(1, 4) {
+        return Call::Withdraw(bad_item);
+    }
+    let mut list = edges(rng, shape, withdrawn);
+    for _ in 0..rng.range(1, 2) {
+        spoil_edges(rng, &mut list, bad_item);
+    }
+    Call::Arrive(list)
+}
+
+fn spoil_edges(rng: &mut Rng, list: &mut Vec<Edge>, bad_item: u64) {
+    match rng.below(5) {
+        0 => {
+            let at = rng.index(list.len() + 1);
+            list.insert(at, Edge { item: bad_item, weight: rng.pick(&[0, 1, 5]) });
+        }
+        1 => list.push(Edge { item: 1, weight: 1 }),
+        2 if !list.is_empty() => {
+            let again = rng.pick(list);
+            list.push(again);
+        }
+        3 if !list.is_empty() => list.reverse(),
+        _ if !list.is_empty() => {
+            let at = rng.index(list.len());
+            list[at].weight = rng.pick(&BAD_WEIGHTS);
+        }
+        _ => list.extend((0..70).map(|i| Edge { item: i + 1, weight: 1 })),
+    }
+}
+
+/// The deepest alternating path: `items` bidders, the last of whom moves every
+/// other to its second item.
+pub fn staircase(items: u64) -> History {
+    let step = |i: u64| vec![Edge { item: i, weight: 100 }, Edge { item: i + 1, weight: 100 }];
+    let mut calls: Vec<Call> = (1..items).map(|i| Call::Arrive(step(i))).collect();
+    calls.push(Call::Arrive(vec![Edge { item: 1, weight: 100 }]));
+    History { items, slack: Slack { p: 1, q: 2 }, calls }
+}

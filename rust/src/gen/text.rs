@@ -1,0 +1,136 @@
+//! History texts: of a history, random, damaged, and the dense one.
+
+use super::history::{Call, History};
+use crate::rng::Rng;
+
+/// The text that tells this history.
+pub fn write(history: &History) -> Vec<u8> {
+    let mut out = format!("K\t{}\t{}\t{}\n", history.items, history.slack.p, history.slack.q);
+    for call in &history.calls {
+        match call {
+            Call::Arrive(edges) => {
+                out.push('A');
+                for edge in edges {
+                    out.push_str(&format!("\t{}\t{}", edge.item, edge.weight));
+                }
+            }
+            Call::Withdraw(item) => out.push_str(&format!("W\t{item}")),
+        }
+        out.push('\n');
+    }
+    out.into_bytes()
+}
+
+/// 64 items, 128 bidders, all 8,192 edges with weights 1 to 9,999, slack 1/100.
+pub fn dense() -> Vec<u8> {
+    let mut rng = Rng::new(2024);
+    let mut out = String::from("K\t64\t1\t100\n");
+    for _ in 0..128 {
+        out.push('A');
+        for item in 1..=64 {
+            out.push_str(&format!("\t{item}\t{}", rng.range(1, 9_999)));
+        }
+        out.push('\n');
+    }
+    out.into_bytes()
+}
+
+const NUMBERS: [&str; 22] = [
+    "0", "1", "2", "3", "10", "63", "64", "65", "128", "129", "999", "1000", "1001", "9999",
+    "1000000", "1000001", "9999999", "10000000", "00", "01", "", "-1",
+];
+
+const BYTES: &[u8] = b"KAWPYTERkaw\t\t\t\n\n\n\r\0 0123456789-+.x\xff";
+
+/// Lines of random fields, more often well formed than not.
+pub fn random(rng: &mut Rng) -> Vec<u8> {
+    let mut out = Vec::new();
+    if rng.chance(19, 20) {
+        out.extend_from_slice(b"K\t3\t1\t10\n");
+    }
+    for _ in 0..rng.below(9) {
+        let letter = rng.pick(b"AAAAAAAAAAAAAAWWWWWWKP\t\n");
+        let fields = match letter {
+            b'A' => 2 * rng.below(4) + rng.chance(1, 30) as u64,
+            _ => rng.pick(&[1, 1, 1, 1, 1, 1, 0, 2, 3]),
+        };
+        out.push(letter);
+        (0..fields).for_each(|_| random_field(rng, &mut out));
+        if rng.chance(39, 40) {
+            out.push(b'\n');
+        }
+    }
+    out
+}
+
+fn random_field(rng: &mut Rng, out: &mut Vec<u8>) {
+    out.push(if rng.chance(79, 80) { b'\t' } else { rng.pick(BYTES) });
+    match rng.below(20) {
+        0 => out.extend_from_slice(rng.pick(&NUMBERS).as_bytes()),
+        _ => out.push(rng.pick(b"1111222233340")),
+    }
+}
+
+/// One to four damages to a text.
+pub fn mutate(rng: &mut Rng, text: &[u8]) -> Vec<u8> {
+    let mut out = text.to_vec();
+    for _ in 0..rng.range(1, 4) {
+        match rng.below(10) {
+            0..=4 => change_byte(rng, &mut out),
+            5 | 6 => change_number(rng, &mut out),
+            7 => change_lines(rng, &mut out),
+            8 => out.truncate(rng.index(out.len() + 1)),
+            _ => out.extend_from_slice(&[rng.pick(BYTES)]),
+        }
+    }
+    if rng.chance(1, 200) {
+        let long = rng.range(65_530, 65_540) as usize;
+        out.resize(long, rng.pick(b"A\n\t1"));
+    }
+    out
+}
+
+fn change_byte(rng: &mut Rng, text: &mut Vec<u8>) {
+    let at = rng.index(text.len() + 1);
+    let byte = rng.pick(BYTES);
+    match rng.below(4) {
+        0 => text.insert(at, byte),
+        1 if at < text.len() => {
+            text.remove(at);
+        }
+        2 if at < text.len() => text[at] ^= 1 << rng.below(8),
+        _ if at < text.len() => text[at] = byte,
+        _ => text.push(byte),
+    }
+}
+
+/// Another number in the place of one that stands there.
+fn change_number(rng: &mut Rng, text: &mut Vec<u8>) {
+    let starts: Vec<usize> =
+        (1..text.len()).filter(|&i| text[i - 1] == b'\t' && text[i].is_ascii_digit()).collect();
+    if starts.is_empty() {
+        return;
+    }
+    let start = rng.pick(&starts);
+    let digits = text[start..].iter().take_while(|b| b.is_ascii_digit()).count();
+    text.splice(start..start + digits, rng.pick(&NUMBERS).bytes());
+}
+
+/// A line left out, doubled, or moved to the end.
+fn change_lines(rng: &mut Rng, text: &mut Vec<u8>) {
+    let mut lines: Vec<Vec<u8>> =
+        text.split_inclusive(|&b| b == b'\n').map(|line| line.to_vec()).collect();
+    if lines.is_empty() {
+        return;
+    }
+    let at = rng.index(lines.len());
+    match rng.below(3) {
+        0 => drop(lines.remove(at)),
+        1 => lines.insert(at, lines[at].clone()),
+        _ => {
+            let line = lines.remove(at);
+            lines.push(line);
+        }
+    }
+    *text = lines.concat();
+}

@@ -1,0 +1,9 @@
+//! The model: document 01 in its plainest form.
+
+pub mod auction;
+pub mod calls;
+pub mod check;
+pub mod hungarian;
+pub mod refusal;
+pub mod sound;
+pub mod text;

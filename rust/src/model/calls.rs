@@ -1,0 +1,59 @@
+//! The public calls over the fixed-size record, refusal 13 included. A refused
+//! call changes neither record nor lists.
+
+use super::auction::*;
+use super::check::{check, Claim, Totals};
+use super::hungarian;
+use super::refusal::*;
+use super::sound::{from_record, to_record, Record};
+
+pub fn open_record(items: u64, slack: Slack) -> Result<Record, Refusal> {
+    Auction::open(items, slack).map(|auction| to_record(&auction))
+}
+
+pub fn arrive_record(record: &mut Record, edges: &[Edge]) -> Result<u64, Refusal> {
+    let mut auction = from_record(record)?;
+    let bids = auction.arrive(edges)?;
+    *record = to_record(&auction);
+    Ok(bids)
+}
+
+pub fn withdraw_record(record: &mut Record, item: u64) -> Result<u64, Refusal> {
+    let mut auction = from_record(record)?;
+    let bids = auction.withdraw(item)?;
+    *record = to_record(&auction);
+    Ok(bids)
+}
+
+pub fn read_out_record(
+    record: &Record,
+    matching: &mut [u64],
+    price: &mut [u64],
+    gain: &mut [u64],
+) -> Result<(), Refusal> {
+    from_record(record)?.read_out(matching, price, gain)
+}
+
+/// The exact level. Its matching, prices and gains are one choice of several;
+/// the weight it answers is not.
+pub fn exact_record(
+    record: &Record,
+    matching: &mut [u64],
+    price: &mut [u64],
+    gain: &mut [u64],
+) -> Result<u64, Refusal> {
+    let auction = from_record(record)?;
+    let (bidders, items) = (auction.bidders.len(), auction.items.len());
+    if matching.len() < bidders || price.len() < items || gain.len() < bidders {
+        return refuse(SHORT, 0);
+    }
+    let exact = hungarian::solve(&auction.live_weights(), items);
+    matching[..bidders].copy_from_slice(&exact.matching);
+    price[..items].copy_from_slice(&exact.price);
+    gain[..bidders].copy_from_slice(&exact.gain);
+    Ok(exact.weight)
+}
+
+pub fn check_record(record: &Record, claim: &Claim) -> Result<Totals, Refusal> {
+    check(&from_record(record)?, claim)
+}

@@ -1,0 +1,150 @@
+//! The cases that document 01 prints, by calls and by texts.
+
+use noughtelm_tests::model::auction::*;
+use noughtelm_tests::model::check::{check, Claim, Totals};
+use noughtelm_tests::model::hungarian::solve;
+use noughtelm_tests::model::refusal::Refusal;
+use noughtelm_tests::model::text::sheet;
+
+fn open(items: u64, p: u64, q: u64) -> Result<Auction, Refusal> {
+    Auction::open(items, Slack { p, q })
+}
+
+fn arrive(auction: &mut Auction, edges: &[(u64, u64)]) -> Result<u64, Refusal> {
+    let edges: Vec<Edge> = edges.iter().map(|&(item, weight)| Edge { item, weight }).collect();
+    auction.arrive(&edges)
+}
+
+fn refused<T>(answer: Result<T, Refusal>, number: u64, place: u64) {
+    assert_eq!(answer.err(), Some(Refusal { number, place }));
+}
+
+/// Matching, weight, sum and greatest weight.
+fn assert_state(auction: &Auction, matching: &[u64], weight: u64, sum: u64, greatest: u64) {
+    assert_eq!(auction.matching(), matching);
+    assert_eq!((auction.weight(), auction.sum()), (weight, sum));
+    assert_eq!(solve(&auction.live_weights(), auction.items.len()).weight, greatest);
+}
+
+fn case_1() -> Auction {
+    let mut auction = open(2, 1, 10).unwrap();
+    assert_eq!(arrive(&mut auction, &[(1, 100), (2, 60)]), Ok(1));
+    assert_eq!(arrive(&mut auction, &[(1, 90)]), Ok(6));
+    auction
+}
+
+#[test]
+fn case_1_by_text_and_by_call() {
+    let text = b"K\t2\t1\t10\nA\t1\t100\t2\t60\nA\t1\t90\n";
+    let printed = b"P\t1\t2\t600\nP\t2\t1\t420\nY\t1\t570\nY\t2\t60\nT\t150\t1650\t7\nE\t150\n";
+    assert_eq!(sheet(text), printed);
+    let auction = case_1();
+    assert_state(&auction, &[2, 1], 150, 1_650, 150);
+    assert_eq!((auction.prices(), auction.gains()), (vec![570, 60], vec![600, 420]));
+}
+
+#[test]
+fn case_2_withdrawal() {
+    let mut auction = case_1();
+    assert_eq!(auction.withdraw(1), Ok(0));
+    assert_state(&auction, &[2, 0], 60, 660, 60);
+}
+
+#[test]
+fn case_3_wide_slack() {
+    let mut auction = open(1, 9, 10).unwrap();
+    assert_eq!(arrive(&mut auction, &[(1, 100)]), Ok(1));
+    assert_eq!(arrive(&mut auction, &[(1, 500)]), Ok(0));
+    assert_state(&auction, &[1, 0], 100, 1_900, 500);
+}
+
+#[test]
+fn case_4_equality_is_not_open() {
+    let mut auction = open(1, 1, 2).unwrap();
+    assert_eq!(arrive(&mut auction, &[(1, 100)]), Ok(1));
+    assert_eq!(arrive(&mut auction, &[(1, 100)]), Ok(0));
+    assert_state(&auction, &[1, 0], 100, 300, 100);
+}
+
+#[test]
+fn case_5_lowest_item() {
+    let mut auction = open(2, 1, 10).unwrap();
+    assert_eq!(arrive(&mut auction, &[(1, 50), (2, 50)]), Ok(1));
+    assert_eq!(auction.matching(), [1]);
+}
+
+#[test]
+fn case_6_empty_arrival() {
+    let mut auction = open(2, 1, 10).unwrap();
+    assert_eq!(arrive(&mut auction, &[]), Ok(0));
+    assert_eq!(auction.matching(), [0]);
+}
+
+#[test]
+fn cases_7_and_8_check() {
+    let auction = case_1();
+    let slack = Slack { p: 0, q: 1 };
+    let matching = auction.matching();
+    let mut claim = Claim { matching, price: vec![40, 0], gain: vec![60, 50], slack };
+    assert_eq!(check(&auction, &claim), Ok(Totals { weight: 150, sum: 150 }));
+    claim.price[0] = 39;
+    refused(check(&auction, &claim), 12, 1);
+}
+
+#[test]
+fn cases_9_to_11_opening() {
+    refused(open(0, 1, 10), 1, 0);
+    assert!(open(64, 1, 10).is_ok());
+    refused(open(65, 1, 10), 1, 0);
+    refused(open(2, 5, 5), 2, 0);
+    assert!(open(2, 1, 1_000).is_ok());
+    refused(open(2, 1, 1_001), 2, 0);
+    refused(open(0, 5, 5), 1, 0);
+}
+
+#[test]
+fn case_12_weights() {
+    let mut auction = open(1, 1, 10).unwrap();
+    assert_eq!(arrive(&mut auction, &[(1, 1_000_000)]), Ok(1));
+    refused(arrive(&mut auction, &[(1, 0)]), 6, 1);
+    refused(arrive(&mut auction, &[(1, 1_000_001)]), 6, 1);
+}
+
+#[test]
+fn case_13_full() {
+    let mut auction = open(1, 1, 2).unwrap();
+    assert!((0..128).all(|_| arrive(&mut auction, &[]).is_ok()));
+    refused(arrive(&mut auction, &[(9, 9)]), 3, 0);
+}
+
+#[test]
+fn case_14_withdrawn_twice() {
+    let mut auction = open(2, 1, 10).unwrap();
+    assert_eq!(auction.withdraw(1), Ok(0));
+    refused(auction.withdraw(1), 5, 0);
+    refused(auction.withdraw(3), 4, 0);
+    refused(arrive(&mut auction, &[(2, 5), (1, 5)]), 5, 2);
+}
+
+#[test]
+fn case_15_true_share() {
+    let mut auction = open(2, 1, 2).unwrap();
+    assert_eq!(arrive(&mut auction, &[(1, 60)]), Ok(1));
+    assert_eq!(arrive(&mut auction, &[(1, 61), (2, 30)]), Ok(1));
+    assert_eq!(arrive(&mut auction, &[(1, 121)]), Ok(0));
+    assert_state(&auction, &[0, 1, 0], 61, 183, 151);
+}
+
+/// Edge by edge 4, 5, 6, 7: the first bad edge decides.
+#[test]
+fn refusals_of_an_arrival_in_order() {
+    let mut auction = open(3, 1, 10).unwrap();
+    auction.withdraw(2).unwrap();
+    let before = auction.clone();
+    refused(arrive(&mut auction, &[(3, 5), (4, 0), (2, 0)]), 4, 2);
+    refused(arrive(&mut auction, &[(2, 0)]), 5, 1);
+    refused(arrive(&mut auction, &[(3, 5), (1, 0)]), 6, 2);
+    refused(arrive(&mut auction, &[(3, 5), (3, 5)]), 7, 2);
+    refused(arrive(&mut auction, &[(0, 5)]), 4, 1);
+    assert_eq!(auction, before);
+}
