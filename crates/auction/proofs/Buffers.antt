@@ -1,0 +1,101 @@
+-- A buffer's two lists and the edges that they mean are tested alike and make the same row.
+use mathlib.Core.Path.{_≡_, refl, sym, ap, ap₂, _∙_}
+use mathlib.Core.Bool.{Bool, true}
+use mathlib.Core.List.{List, [], _∷_, _++_}
+use Prim.Native.Nat.{ℕ, zero, suc, _+_, _-_, _≤_, _<_, min}
+use native.Mathlib.Nat.{not-suc-le-zero}
+use native.Mathlib.Omega.{arith}
+use lib.ListN.{length, getD, set, length-append, List·getD-append}
+use lib.Seq.{getD-at}
+use Rattle.duality.specs.Lists.{cells}
+use Rattle.duality.proofs.Below.{one-more}
+use Rattle.auction.specs.declared.board.Edge.{Edge}
+use Rattle.auction.specs.declared.board.Auction.{Auction}
+use Rattle.auction.specs.declared.edges.EdgeBuffer.{EdgeBuffer}
+use Rattle.auction.specs.declared.refusal.Refusal.{Refusal}
+use Rattle.auction.specs.declared.refusal.Verdict.{Verdict}
+use Rattle.auction.specs.declared.refusal.Verdict.the-variants.{Served, Refused}
+use Rattle.auction.specs.Rule.{Settled}
+use Rattle.auction.specs.declared.calls.Arrived.{Arrived}
+use Rattle.auction.specs.Limits.{maxBidders, maxEdges}
+use Rattle.auction.specs.Cells.{edge}
+use Rattle.auction.specs.SoundTest.{soundTest}
+use Rattle.auction.specs.Rule.{done}
+use Rattle.auction.specs.Calls.{arrivedOf, arriveOf}
+use Rattle.auction.proofs.CallVerdicts.{arrive-refused, arrive-served, arrival-done}
+use Rattle.auction.specs.Refusals.{firstOf}
+use Rattle.auction.specs.Edges.{itemIn, weightIn, orderTest, edgeChecks, edgesChecks, rowTo, edgesFrom, bufferEdges}
+
+pub from-length : (xs ys : List ℕ) (n : ℕ) → length (edgesFrom xs ys n) ≡ n
+unfolding edgesFrom
+from-length xs ys zero = refl
+from-length xs ys (suc n) = simp length-append (omega (arith, from-length xs ys n))
+
+-- The edge in a cell
+pub from-cell : (xs ys : List ℕ) (n i : ℕ) → i < n → getD (edgesFrom xs ys n) i (edge 0 0) ≡ edge (getD xs i 0) (getD ys i 0)
+unfolding edgesFrom
+from-cell xs ys zero i l = absurd (not-suc-le-zero l)
+from-cell xs ys (suc n) i l =
+    one-more n (λ j. getD (edgesFrom xs ys (suc n)) j (edge 0 0) ≡ edge (getD xs j 0) (getD ys j 0))
+    (λ j h. List·getD-append (edgesFrom xs ys n) _ (edge 0 0) j (rw (from-length xs ys n) h) ∙ from-cell xs ys n j h)
+    (getD-at (edgesFrom xs ys n) _ [] (edge 0 0) n (from-length xs ys n))
+    i l
+
+-- Tests and rows read only the cells below a number
+module _ (items : ℕ) (withdrawn : List Bool) (f f′ g g′ : ℕ → ℕ) where
+  order-as : (i : ℕ) → ((j : ℕ) → j ≤ i → f j ≡ f′ j) → orderTest f i ≡ orderTest f′ i
+  unfolding orderTest
+  order-as zero e = refl
+  order-as (suc i) e = rw (e (suc i) (omega arith), e i (omega arith))
+
+  edge-as : (i : ℕ) → ((j : ℕ) → j ≤ i → f j ≡ f′ j) → ((j : ℕ) → j ≤ i → g j ≡ g′ j) →
+      edgeChecks items withdrawn f g i ≡ edgeChecks items withdrawn f′ g′ i
+  unfolding edgeChecks
+  edge-as i e h = rw (e i (omega arith), h i (omega arith), order-as i e)
+
+  pub edges-as : (i n : ℕ) → ((j : ℕ) → j < i + n → f j ≡ f′ j) → ((j : ℕ) → j < i + n → g j ≡ g′ j) →
+      edgesChecks items withdrawn f g i n ≡ edgesChecks items withdrawn f′ g′ i n
+  unfolding edgesChecks
+  edges-as i zero e h = refl
+  edges-as i (suc n) e h =
+      ap₂ _++_ (edge-as i (λ j l. e j (omega arith)) (λ j l. h j (omega arith)))
+      (edges-as (suc i) n (λ j l. e j (omega arith)) (λ j l. h j (omega arith)))
+
+pub row-as : (f f′ g g′ : ℕ → ℕ) (n : ℕ) → ((j : ℕ) → j < n → f j ≡ f′ j) → ((j : ℕ) → j < n → g j ≡ g′ j) → rowTo f g n ≡ rowTo f′ g′ n
+unfolding rowTo
+row-as f f′ g g′ zero e h = refl
+row-as f f′ g g′ (suc n) e h =
+    rw (e n (omega arith), h n (omega arith), row-as f f′ g g′ n (λ j l. e j (omega arith)) (λ j l. h j (omega arith)))
+
+module _ (xs ys : List ℕ) (n : ℕ) where
+  same-item : (i : ℕ) → i < n → cells xs i ≡ itemIn (edgesFrom xs ys n) i
+  same-item i l = sym (ap (λ (e : Edge). e .item) (from-cell xs ys n i l))
+
+  same-weight : (i : ℕ) → i < n → cells ys i ≡ weightIn (edgesFrom xs ys n) i
+  same-weight i l = sym (ap (λ (e : Edge). e .weight) (from-cell xs ys n i l))
+
+  pub buffer-checks : (items : ℕ) (withdrawn : List Bool) → edgesChecks items withdrawn (cells xs) (cells ys) 0 n ≡
+      edgesChecks items withdrawn (itemIn (edgesFrom xs ys n)) (weightIn (edgesFrom xs ys n)) 0 (length (edgesFrom xs ys n))
+  buffer-checks items withdrawn =
+      rw (from-length xs ys n) (edges-as items withdrawn _ _ _ _ 0 n (λ j l. same-item j (omega arith)) (λ j l. same-weight j (omega arith)))
+
+  pub buffer-row : rowTo (cells xs) (cells ys) n ≡ rowTo (itemIn (edgesFrom xs ys n)) (weightIn (edgesFrom xs ys n)) (length (edgesFrom xs ys n))
+  buffer-row = rw (from-length xs ys n) (row-as _ _ _ _ n same-item same-weight)
+
+-- An arrival over a buffer, of which n pairs count
+module _ (b : Auction) (buffer : EdgeBuffer) (n : ℕ) (en : n ≡ min (buffer .count) maxEdges) (s : soundTest b ≡ true) (l : b .arrived < maxBidders) where
+  verdict : edgesChecks (b .items) (b .withdrawn) (cells (buffer .items)) (cells (buffer .weights)) 0 n ≡
+      edgesChecks (b .items) (b .withdrawn) (itemIn (bufferEdges buffer)) (weightIn (bufferEdges buffer)) 0 (length (bufferEdges buffer))
+  verdict = rw en (buffer-checks (buffer .items) (buffer .weights) (min (buffer .count) maxEdges) (b .items) (b .withdrawn))
+
+  pub buffer-refused : (v : Verdict) (r : Refusal) → v ≡ firstOf (edgesChecks (b .items) (b .withdrawn) (cells (buffer .items)) (cells (buffer .weights)) 0 n) →
+      v ≡ Refused r → done (record { auction = b; answer = Arrived.Refused r }) ≡ arriveOf b (bufferEdges buffer)
+  buffer-refused v r e f = sym (arrive-refused b (bufferEdges buffer) s l r (ap firstOf (sym verdict) ∙ sym e ∙ f))
+
+  pub buffer-served : (v : Verdict) → v ≡ firstOf (edgesChecks (b .items) (b .withdrawn) (cells (buffer .items)) (cells (buffer .weights)) 0 n) →
+      v ≡ Served → (row : List ℕ) (a : Settled) → row ≡ rowTo (cells (buffer .items)) (cells (buffer .weights)) n → done a ≡ arrivedOf b row →
+      done (record { auction = a .auction; answer = Arrived.Bids (a .bids) }) ≡ arriveOf b (bufferEdges buffer)
+  buffer-served v e f row a er ea =
+      let same : row ≡ rowTo (itemIn (bufferEdges buffer)) (weightIn (bufferEdges buffer)) (length (bufferEdges buffer)) =
+      er ∙ rw en (buffer-row (buffer .items) (buffer .weights) (min (buffer .count) maxEdges)) in
+      sym (arrive-served b (bufferEdges buffer) s l (ap firstOf (sym verdict) ∙ sym e ∙ f) ∙ arrival-done _ a (ea ∙ ap (arrivedOf b) same))

@@ -1,0 +1,244 @@
+-- Demand 1 of each call, from the one law of verdicts.
+use mathlib.Core.Path.{_≡_, refl, sym, ap, _∙_}
+use mathlib.Core.Logic.{_↔_}
+use mathlib.Core.Bool.{Bool, true, false, not}
+use mathlib.Core.List.{List, [], _∷_}
+use Prim.Native.Nat.{ℕ, zero, suc, _-_, _≤_}
+use native.Mathlib.Omega.{arith}
+use lib.ListN.{length, getD}
+use Rattle.duality.specs.Decide.{Decides}
+use Rattle.duality.proofs.Decide.{reword, true-decides, le-decides, clash}
+use Rattle.auction.specs.declared.board.Auction.{Auction}
+use Rattle.auction.specs.declared.board.Edge.{Edge}
+use Rattle.auction.specs.declared.refusal.Refusal.{Refusal}
+use Rattle.auction.specs.declared.refusal.Refusal.the-variants.{Count, Slack, Full, Unknown, Gone, Worth, Order, Short, Spoilt}
+use Rattle.auction.specs.declared.refusal.Verdict.{Verdict}
+use Rattle.auction.specs.declared.refusal.Verdict.the-variants.{Served, Refused}
+use Rattle.auction.specs.Rule.{Settled}
+use Rattle.auction.specs.declared.calls.Opened.{Opened}
+use Rattle.auction.specs.declared.calls.Arrived.{Arrived}
+use Rattle.auction.specs.declared.calls.Arrival.{Arrival}
+use Rattle.auction.specs.declared.calls.Withdrawn.{Withdrawn}
+use Rattle.auction.specs.declared.calls.Withdrawal.{Withdrawal}
+use Rattle.auction.specs.declared.calls.ReadOut.{ReadOut}
+use Rattle.auction.specs.Limits.{maxItems, maxBidders, maxWeight}
+use Rattle.auction.specs.Cells.{withdrawnAt}
+use Rattle.auction.specs.Sound.{Sound, SlackIn}
+use Rattle.auction.specs.SoundTest.{soundTest}
+use Rattle.auction.specs.Rule.{Outcome, done, spent}
+use Rattle.auction.specs.Refusals.{firstOf, Within, Check, check}
+use Rattle.auction.specs.Edges.{itemIn, weightIn, withinTest, orderTest, edgeChecks, edgesChecks, rowTo}
+use Rattle.auction.specs.Calls.{opened, slackTest, OpenMet, count, slack, openChecks, openBy, openOf, ArriveMet, arriveRest, arriveChecks, arrivalOf, arrivedOf, arriveBy, arriveOf, WithdrawMet, withdrawRest, withdrawChecks, withdrawalOf, withdrawnOf, withdrawBy, withdrawOf, Lists, Roomy, roomTest, ReadOutMet, readOutChecks, readOutBy, readOutOf, outcome}
+use Rattle.auction.specs.Demand1.{OpenDemand1, ArriveDemand1, WithdrawDemand1, ReadOutDemand1}
+use Rattle.auction.proofs.Tests.{no-decides, within-decides, slack-decides, room-decides, order-decides}
+use Rattle.auction.proofs.Verdicts.{Decided, ends, next, decided-append, demand-1}
+use Rattle.auction.proofs.SoundLaw.{sound-decides}
+use Rattle.auction.proofs.Demand2.{arrive-ends, withdraw-ends}
+
+-- ---- Open
+
+module _ (items p q : ℕ) where
+  count-met : OpenMet items p q Count → Within 1 maxItems items → ⊥
+  count-met (OpenMet.count f) = f
+
+  slack-met : OpenMet items p q Slack → SlackIn 1 p q → ⊥
+  slack-met (OpenMet.slack f) = f
+
+  open-decided : Decided (OpenMet items p q) (openChecks items p q)
+  open-decided =
+      next (reword (no-decides (within-decides maxItems items)) (λ f. OpenMet.count f) count-met)
+      (next (reword (no-decides (slack-decides 1 p q)) (λ f. OpenMet.slack f) slack-met) ends)
+
+pub open-demand-1 : OpenDemand1
+unfolding openOf openBy
+open-demand-1 items p q =
+    demand-1 (open-decided items p q)
+    (λ r. (λ e. rw e, λ e. by-refused r (firstOf (openChecks items p q)) e))
+    (λ e. rw e, λ e. by-ready (firstOf (openChecks items p q)) e)
+  where
+    by-refused : (r : Refusal) (v : Verdict) → openBy items p q v ≡ record { auction = opened 0 0 0; answer = Opened.Refused r } → v ≡ Refused r
+    by-refused r Served e = let a : Opened.Ready ≡ Opened.Refused r = ap (λ o. o .answer) e in let z : _≡_ {A = ℕ} 0 1 = cc in absurd (omega arith)
+    by-refused r (Refused s) e = let a : Opened.Refused s ≡ Opened.Refused r = ap (λ o. o .answer) e in let h : s ≡ r = cc in ap Refused h
+
+    by-ready : (v : Verdict) → openBy items p q v ≡ record { auction = opened items p q; answer = Opened.Ready } → v ≡ Served
+    by-ready Served e = refl
+    by-ready (Refused s) e = let a : Opened.Refused s ≡ Opened.Ready = ap (λ o. o .answer) e in let z : _≡_ {A = ℕ} 0 1 = cc in absurd (omega arith)
+
+-- ---- Arrive
+
+module _ (b : Auction) (edges : List Edge) where
+  arrive-unsound : ArriveMet b edges Spoilt → Sound b → ⊥
+  arrive-unsound (ArriveMet.spoilt f) = f
+
+  full-met : ArriveMet b edges Full → maxBidders ≤ b .arrived
+  full-met (ArriveMet.full l) = l
+
+  unknown-met : (i : ℕ) → ArriveMet b edges (Unknown (suc i)) → Within 1 (b .items) (itemIn edges i) → ⊥
+  unknown-met i (ArriveMet.unknown f) = f
+
+  gone-met : (i : ℕ) → ArriveMet b edges (Gone (suc i)) → withdrawnAt b (itemIn edges i - 1) ≡ true
+  gone-met i (ArriveMet.gone e) = e
+
+  worth-met : (i : ℕ) → ArriveMet b edges (Worth (suc i)) → Within 1 maxWeight (weightIn edges i) → ⊥
+  worth-met i (ArriveMet.worth f) = f
+
+  order-decided : (i : ℕ) → Decides (orderTest (itemIn edges) i) (ArriveMet b edges (Order (suc i)))
+  unfolding orderTest
+  order-decided zero = record { sound = λ e. absurd (clash false e refl); complete = λ m. absurd (never m) }
+    where
+      never : ArriveMet b edges (Order 1) → ⊥
+      never = elim [ ]
+  order-decided (suc i) = reword (le-decides (itemIn edges (suc i)) (itemIn edges i)) (λ l. ArriveMet.order l) order-met
+    where
+      order-met : ArriveMet b edges (Order (suc (suc i))) → itemIn edges (suc i) ≤ itemIn edges i
+      order-met (ArriveMet.order l) = l
+
+  edges-decided : (i n : ℕ) → Decided (ArriveMet b edges) (edgesChecks (b .items) (b .withdrawn) (itemIn edges) (weightIn edges) i n)
+  unfolding edgesChecks edgeChecks
+  edges-decided i zero = ends
+  edges-decided i (suc n) =
+      decided-append
+      (next (reword (no-decides (within-decides (b .items) (itemIn edges i))) (λ f. ArriveMet.unknown f) (unknown-met i))
+      (next (reword (true-decides (withdrawnAt b (itemIn edges i - 1))) (λ e. ArriveMet.gone e) (gone-met i))
+      (next (reword (no-decides (within-decides maxWeight (weightIn edges i))) (λ f. ArriveMet.worth f) (worth-met i))
+      (next (order-decided i) ends))))
+      (edges-decided (suc i) n)
+
+  arrive-decided : Decided (ArriveMet b edges) (arriveChecks b edges)
+  unfolding arriveRest
+  arrive-decided =
+      next (reword (no-decides (sound-decides b)) (λ f. ArriveMet.spoilt f) arrive-unsound)
+      (next (reword (le-decides maxBidders (b .arrived)) (λ l. ArriveMet.full l) full-met)
+      (edges-decided 0 (length edges)))
+
+abbrev arrival : Auction → Arrived → Arrival
+arrival c a = record { auction = c; answer = a }
+
+-- What comes of a chain is a number of bids, if anything
+arrival-bids : (o : Outcome Settled) (a : Arrival) → arrivalOf o ≡ done a → (n : ℕ) × (a .answer ≡ Arrived.Bids n)
+unfolding arrivalOf
+arrival-bids spent a e = let z : _≡_ {A = ℕ} 0 1 = cc in absurd (omega arith)
+arrival-bids (done s) a e = (s .bids, let h : arrival (s .auction) (Arrived.Bids (s .bids)) ≡ a = cc in sym (ap (λ x. x .answer) h))
+
+pub arrive-demand-1 : ArriveDemand1
+unfolding arriveOf arriveBy
+arrive-demand-1 b edges =
+    demand-1 (arrive-decided b edges)
+    (λ r. (λ e. rw e, λ e. by-refused r (firstOf (arriveChecks b edges)) e))
+    (λ e. serve e, λ s. by-bids (s .0) (s .1) (firstOf (arriveChecks b edges)) (s .2))
+  where
+    by-refused : (r : Refusal) (v : Verdict) → arriveBy b edges v ≡ done (record { auction = b; answer = Arrived.Refused r }) → v ≡ Refused r
+    by-refused r Served e =
+        let (n, h) = arrival-bids _ _ e in
+        let a : Arrived.Refused r ≡ Arrived.Bids n = h in
+        let z : _≡_ {A = ℕ} 0 1 = cc in absurd (omega arith)
+    by-refused r (Refused s) e =
+        let a : arrival b (Arrived.Refused s) ≡ arrival b (Arrived.Refused r) = cc in
+        let f : Arrived.Refused s ≡ Arrived.Refused r = ap (λ x. x .answer) a in
+        let h : s ≡ r = cc in ap Refused h
+
+    by-bids : (c : Auction) (n : ℕ) (v : Verdict) → arriveBy b edges v ≡ done (record { auction = c; answer = Arrived.Bids n }) → v ≡ Served
+    by-bids c n Served e = refl
+    by-bids c n (Refused s) e =
+        let a : arrival b (Arrived.Refused s) ≡ arrival c (Arrived.Bids n) = cc in
+        let f : Arrived.Refused s ≡ Arrived.Bids n = ap (λ x. x .answer) a in
+        let z : _≡_ {A = ℕ} 0 1 = cc in absurd (omega arith)
+
+    serve : firstOf (arriveChecks b edges) ≡ Served → (c : Auction) × (n : ℕ) × (arriveOf b edges ≡ done (record { auction = c; answer = Arrived.Bids n }))
+    serve e =
+        let (a, h) = arrive-ends b edges in
+        let (n, g) = arrival-bids _ a (rw e at h) in
+        (a .auction, n, rw (← g) h)
+
+-- ---- Withdraw
+
+module _ (b : Auction) (item : ℕ) where
+  withdraw-unsound : WithdrawMet b item Spoilt → Sound b → ⊥
+  withdraw-unsound (WithdrawMet.spoilt f) = f
+
+  unknown-item-met : WithdrawMet b item (Unknown 0) → Within 1 (b .items) item → ⊥
+  unknown-item-met (WithdrawMet.unknown f) = f
+
+  gone-item-met : WithdrawMet b item (Gone 0) → withdrawnAt b (item - 1) ≡ true
+  gone-item-met (WithdrawMet.gone e) = e
+
+  withdraw-decided : Decided (WithdrawMet b item) (withdrawChecks b item)
+  unfolding withdrawRest
+  withdraw-decided =
+      next (reword (no-decides (sound-decides b)) (λ f. WithdrawMet.spoilt f) withdraw-unsound)
+      (next (reword (no-decides (within-decides (b .items) item)) (λ f. WithdrawMet.unknown f) unknown-item-met)
+      (next (reword (true-decides (withdrawnAt b (item - 1))) (λ e. WithdrawMet.gone e) gone-item-met) ends))
+
+abbrev withdrawal : Auction → Withdrawn → Withdrawal
+withdrawal c a = record { auction = c; answer = a }
+
+-- What comes of a chain is a number of bids, if anything
+withdrawal-bids : (o : Outcome Settled) (a : Withdrawal) → withdrawalOf o ≡ done a → (n : ℕ) × (a .answer ≡ Withdrawn.Bids n)
+unfolding withdrawalOf
+withdrawal-bids spent a e = let z : _≡_ {A = ℕ} 0 1 = cc in absurd (omega arith)
+withdrawal-bids (done s) a e = (s .bids, let h : withdrawal (s .auction) (Withdrawn.Bids (s .bids)) ≡ a = cc in sym (ap (λ x. x .answer) h))
+
+pub withdraw-demand-1 : WithdrawDemand1
+unfolding withdrawOf withdrawBy
+withdraw-demand-1 b item =
+    demand-1 (withdraw-decided b item)
+    (λ r. (λ e. rw e, λ e. by-refused r (firstOf (withdrawChecks b item)) e))
+    (λ e. serve e, λ s. by-bids (s .0) (s .1) (firstOf (withdrawChecks b item)) (s .2))
+  where
+    by-refused : (r : Refusal) (v : Verdict) → withdrawBy b item v ≡ done (record { auction = b; answer = Withdrawn.Refused r }) → v ≡ Refused r
+    by-refused r Served e =
+        let (n, h) = withdrawal-bids _ _ e in
+        let a : Withdrawn.Refused r ≡ Withdrawn.Bids n = h in
+        let z : _≡_ {A = ℕ} 0 1 = cc in absurd (omega arith)
+    by-refused r (Refused s) e =
+        let a : withdrawal b (Withdrawn.Refused s) ≡ withdrawal b (Withdrawn.Refused r) = cc in
+        let f : Withdrawn.Refused s ≡ Withdrawn.Refused r = ap (λ x. x .answer) a in
+        let h : s ≡ r = cc in ap Refused h
+
+    by-bids : (c : Auction) (n : ℕ) (v : Verdict) → withdrawBy b item v ≡ done (record { auction = c; answer = Withdrawn.Bids n }) → v ≡ Served
+    by-bids c n Served e = refl
+    by-bids c n (Refused s) e =
+        let a : withdrawal b (Withdrawn.Refused s) ≡ withdrawal c (Withdrawn.Bids n) = cc in
+        let f : Withdrawn.Refused s ≡ Withdrawn.Bids n = ap (λ x. x .answer) a in
+        let z : _≡_ {A = ℕ} 0 1 = cc in absurd (omega arith)
+
+    serve : firstOf (withdrawChecks b item) ≡ Served → (c : Auction) × (n : ℕ) × (withdrawOf b item ≡ done (record { auction = c; answer = Withdrawn.Bids n }))
+    serve e =
+        let (a, h) = withdraw-ends b item in
+        let (n, g) = withdrawal-bids _ a (rw e at h) in
+        (a .auction, n, rw (← g) h)
+
+-- ---- Read out
+
+module _ (b : Auction) (l : Lists) where
+  read-unsound : ReadOutMet b l Spoilt → Sound b → ⊥
+  read-unsound (ReadOutMet.spoilt f) = f
+
+  short-met : ReadOutMet b l Short → Roomy b l → ⊥
+  short-met (ReadOutMet.short f) = f
+
+  pub roomy-decides : Decides (roomTest (b .arrived) (b .items) (length (l .plan)) (length (l .prices)) (length (l .gains))) (Roomy b l)
+  roomy-decides =
+      reword (room-decides _ _ _ _ _)
+      (λ h. record { plan = h .0; prices = h .1 .0; gains = h .1 .1 })
+      (λ h. (h .plan, (h .prices, h .gains)))
+
+  pub read-out-decided : Decided (ReadOutMet b l) (readOutChecks b l)
+  read-out-decided =
+      next (reword (no-decides (sound-decides b)) (λ f. ReadOutMet.spoilt f) read-unsound)
+      (next (reword (no-decides roomy-decides) (λ f. ReadOutMet.short f) short-met) ends)
+
+pub read-out-demand-1 : ReadOutDemand1
+unfolding readOutOf readOutBy
+read-out-demand-1 b l =
+    demand-1 (read-out-decided b l)
+    (λ r. (λ e. rw e, λ e. by-refused r (firstOf (readOutChecks b l)) (ap (λ o. o .answer) e)))
+    (λ e. rw e, λ e. by-written (firstOf (readOutChecks b l)) e)
+  where
+    by-refused : (r : Refusal) (v : Verdict) → readOutBy b l v .answer ≡ ReadOut.Refused r → v ≡ Refused r
+    by-refused r Served e = let z : _≡_ {A = ℕ} 0 1 = cc in absurd (omega arith)
+    by-refused r (Refused s) e = let h : s ≡ r = cc in ap Refused h
+
+    by-written : (v : Verdict) → readOutBy b l v .answer ≡ ReadOut.Written → v ≡ Served
+    by-written Served e = refl
+    by-written (Refused s) e = let z : _≡_ {A = ℕ} 0 1 = cc in absurd (omega arith)

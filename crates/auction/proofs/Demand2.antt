@@ -1,0 +1,199 @@
+-- Demand 2: each call ends, makes the bids of the rule, and leaves a sound board; what holds of a sound board; what a read-out writes.
+use mathlib.Core.Path.{_≡_, refl, sym, subst, subst₂, _∙_}
+use mathlib.Core.List.{List}
+use Prim.Native.Nat.{ℕ, _+_, _-_, _≤_, _<_}
+use native.Mathlib.Nat.{mul-pos}
+use native.Mathlib.Omega.{arith}
+use lib.ListN.{length}
+use borrow.Author.Tests.{not-false}
+use Rattle.duality.proofs.Tightness.{tightness}
+use Rattle.duality.proofs.Share.{share}
+use Rattle.auction.specs.declared.board.Auction.{Auction}
+use Rattle.auction.specs.declared.board.Edge.{Edge}
+use Rattle.auction.specs.declared.board.Holder.{Holder}
+use Rattle.auction.specs.declared.board.Holder.the-variants.{Held, Free}
+use Rattle.auction.specs.declared.refusal.Refusal.{Refusal}
+use Rattle.auction.specs.declared.refusal.Verdict.{Verdict}
+use Rattle.auction.specs.declared.refusal.Verdict.the-variants.{Served, Refused}
+use Rattle.auction.specs.declared.calls.Arrived.{Arrived}
+use Rattle.auction.specs.declared.calls.Arrival.{Arrival}
+use Rattle.auction.specs.declared.calls.Withdrawn.{Withdrawn}
+use Rattle.auction.specs.declared.calls.Withdrawal.{Withdrawal}
+use Rattle.auction.specs.Limits.{maxBidders}
+use Rattle.auction.specs.Cells.{holderAt, holderOf}
+use Rattle.auction.specs.Live.{live, matchingOf}
+use Rattle.auction.specs.Sound.{Sound}
+use Rattle.auction.specs.Potential.{edgeCount, potential}
+use Rattle.auction.specs.Rule.{displaced, done, handOver}
+use Rattle.auction.specs.Refusals.{firstOf}
+use Rattle.auction.specs.Edges.{itemIn, weightIn, rowTo}
+use Rattle.auction.specs.Calls.{arriveChecks, arrivalOf, arrivedOf, arriveBy, arriveOf, entered, withdrawChecks, withdrawalOf, withdrawnOf, withdrawBy, withdrawOf, released}
+use Rattle.auction.specs.Waiting.{Nobody, Ready}
+use Rattle.auction.specs.RuleLaws.{Settles, Ends}
+use Rattle.auction.specs.Demand2.{ArriveEnds, WithdrawEnds, Arrives, ArriveDemand2, Leaves, free, held, Withdraws, WithdrawDemand2, SoundDemand2}
+use Rattle.auction.proofs.SoundLaw.{sound-decides, sound-is-settled}
+use Rattle.auction.proofs.Frame.{framed}
+use Rattle.auction.proofs.Bids.{cell-free}
+use Rattle.auction.proofs.Potentials.{potential-displaced, potential-released}
+use Rattle.auction.proofs.Chains.{chain-ends, settle-is-chain}
+use Rattle.auction.proofs.Starts.{arrival-ready, withdrawal-ready, withdrawal-free}
+use Rattle.auction.proofs.EdgesLaw.{served-next, Accepted, served-arrival, served-withdrawal, row-fits}
+
+-- An answer is one
+same-done : {A : Type 0} {r s : A} (P : A → Type 0) → done r ≡ done s → P r → P s
+same-done {A} {r} {s} P e p = let q : r ≡ s = cc in subst P q p
+
+-- ---- The chain that a call begins
+pub record Settlement (b : Auction) (i : ℕ) : Type 0 where
+  pub settles : Settles b i
+  pub sound : Sound (settles .board)
+  pub ends : Ends Nobody b (settles .board) (settles .bids)
+
+pub settlement : {b : Auction} {i : ℕ} → Ready b i → Settlement b i
+settlement {b} {i} r =
+    let s = settle-is-chain Nobody b i (r .sound) (r .bidder) (λ z. z) in
+    let e = chain-ends Nobody b _ i _ (r .sound) (r .bidder) (λ z. z) (s .chain) in
+    record { settles = s; sound = sound-is-settled _ .1 (e .sound); ends = e }
+
+-- ---- Arrive
+
+-- The row of an arrival's edges, and the board with the new bidder, before it bids
+abbrev pub rowOf : List Edge → List ℕ
+rowOf edges = rowTo (itemIn edges) (weightIn edges) (length edges)
+
+abbrev pub joined : Auction → List Edge → Auction
+joined b edges = entered b (rowOf edges)
+
+-- What a served arrival is
+pub record Joins (b : Auction) (edges : List Edge) : Type 0 where
+  pub before : Sound b
+  pub room : b .arrived < maxBidders
+  pub accepted : Accepted (b .items) (b .withdrawn) (itemIn edges) (weightIn edges) (length edges)
+  pub after : Settlement (joined b edges) (b .arrived)
+  pub answers : arriveOf b edges ≡ done (record { auction = after .settles .board; answer = Arrived.Bids (after .settles .bids) })
+
+pub joins : (b : Auction) (edges : List Edge) → firstOf (arriveChecks b edges) ≡ Served → Joins b edges
+unfolding arriveOf arriveBy arrivedOf arrivalOf
+joins b edges e =
+    let u = served-next _ _ e in
+    let s = sound-decides b .sound (not-false _ (u .0)) in
+    let a = served-arrival b edges (u .1) in
+    let t = settlement (arrival-ready s (a .0) (row-fits (a .1))) in
+    record { before = s; room = a .0; accepted = a .1; after = t; answers = rw (e, t .settles .computed) }
+
+-- The two kinds of answer
+module _ (b : Auction) (edges : List Edge) where
+  refused-arrival : (q : Refusal) → firstOf (arriveChecks b edges) ≡ Refused q → arriveOf b edges ≡ done (record { auction = b; answer = Arrived.Refused q })
+  unfolding arriveOf arriveBy
+  refused-arrival q e = rw e
+
+  -- What holds of both holds of the answer
+  pub arrive-all : (P : Arrival → Type 0) → ((j : Joins b edges) → P (record { auction = j .after .settles .board; answer = Arrived.Bids (j .after .settles .bids) })) →
+      ((q : Refusal) → P (record { auction = b; answer = Arrived.Refused q })) → (r : Arrival) → arriveOf b edges ≡ done r → P r
+  arrive-all P f g r h = go (firstOf (arriveChecks b edges)) refl
+    where
+      go : (v : Verdict) → firstOf (arriveChecks b edges) ≡ v → P r
+      go Served e = let j = joins b edges e in same-done P (sym (j .answers) ∙ h) (f j)
+      go (Refused q) e = same-done P (sym (refused-arrival q e) ∙ h) (g q)
+
+pub arrive-ends : ArriveEnds
+arrive-ends b edges = go (firstOf (arriveChecks b edges)) refl
+  where
+    go : (v : Verdict) → firstOf (arriveChecks b edges) ≡ v → (r : Arrival) × (arriveOf b edges ≡ done r)
+    go Served e = (_, joins b edges e .answers)
+    go (Refused q) e = (_, refused-arrival b edges q e)
+
+pub arrive-demand-2 : ArriveDemand2
+arrive-demand-2 b c edges n h =
+    arrive-all b edges (λ r. r .auction ≡ c → r .answer ≡ Arrived.Bids n → Arrives b edges c n)
+    (λ j e f. let k : j .after .settles .bids ≡ n = cc in
+    subst₂ (λ c n. Arrives b edges c n) e k (record { before = j .before; chain = j .after .settles .chain; after = j .after .sound }))
+    (λ q e f. let z : _≡_ {A = ℕ} 0 1 = cc in absurd (omega arith))
+    _ h refl refl
+
+-- ---- Withdraw
+
+-- What a served withdrawal is
+pub record Quits (b : Auction) (item : ℕ) : Type 0 where
+  pub before : Sound b
+  pub board : Auction
+  pub bids : ℕ
+  pub leaves : Leaves b (item - 1) board bids
+  pub after : Sound board
+  pub counted : bids + potential b ≤ potential board
+  pub answers : withdrawOf b item ≡ done (record { auction = board; answer = Withdrawn.Bids bids })
+
+module _ (b : Auction) (item : ℕ) (e : firstOf (withdrawChecks b item) ≡ Served) where
+  by-holder : (s : Sound b) (lk : item - 1 < b .items) (h : Holder) → holderOf (holderAt b (item - 1)) ≡ h → Quits b item
+  unfolding withdrawOf withdrawBy withdrawnOf withdrawalOf handOver edgeCount displaced
+  by-holder s lk Free f =
+      record {
+        before = s;
+        board = released b (item - 1);
+        bids = 0;
+        leaves = free f;
+        after = withdrawal-free s lk f;
+        counted = omega (arith, potential-released (framed (sound-is-settled b .0 s)) lk);
+        answers = rw (e, f);
+      }
+  by-holder s lk (Held x) f =
+      let t = settlement (withdrawal-ready s lk f) in
+      record {
+        before = s;
+        board = t .settles .board;
+        bids = t .settles .bids;
+        leaves = held f (t .settles .chain);
+        after = t .sound;
+        counted = omega (arith, t .ends .counted, potential-displaced (released b (item - 1)) x, potential-released (framed (sound-is-settled b .0 s)) lk);
+        answers = rw (e, f, t .settles .computed);
+      }
+
+  pub quits : Quits b item
+  quits =
+      let u = served-next _ _ e in
+      let s = sound-decides b .sound (not-false _ (u .0)) in
+      let k = served-withdrawal b item (u .1) .0 in
+      by-holder s (omega arith) _ refl
+
+module _ (b : Auction) (item : ℕ) where
+  refused-withdrawal : (q : Refusal) → firstOf (withdrawChecks b item) ≡ Refused q → withdrawOf b item ≡ done (record { auction = b; answer = Withdrawn.Refused q })
+  unfolding withdrawOf withdrawBy
+  refused-withdrawal q e = rw e
+
+  pub withdraw-all : (P : Withdrawal → Type 0) → ((j : Quits b item) → P (record { auction = j .board; answer = Withdrawn.Bids (j .bids) })) →
+      ((q : Refusal) → P (record { auction = b; answer = Withdrawn.Refused q })) → (r : Withdrawal) → withdrawOf b item ≡ done r → P r
+  withdraw-all P f g r h = go (firstOf (withdrawChecks b item)) refl
+    where
+      go : (v : Verdict) → firstOf (withdrawChecks b item) ≡ v → P r
+      go Served e = let j = quits b item e in same-done P (sym (j .answers) ∙ h) (f j)
+      go (Refused q) e = same-done P (sym (refused-withdrawal q e) ∙ h) (g q)
+
+pub withdraw-ends : WithdrawEnds
+withdraw-ends b item = go (firstOf (withdrawChecks b item)) refl
+  where
+    go : (v : Verdict) → firstOf (withdrawChecks b item) ≡ v → (r : Withdrawal) × (withdrawOf b item ≡ done r)
+    go Served e = (_, quits b item e .answers)
+    go (Refused q) e = (_, refused-withdrawal b item q e)
+
+pub withdraw-demand-2 : WithdrawDemand2
+withdraw-demand-2 b c item n h =
+    withdraw-all b item (λ r. r .auction ≡ c → r .answer ≡ Withdrawn.Bids n → Withdraws b item c n)
+    (λ j e f. let k : j .bids ≡ n = cc in
+    subst₂ (λ c n. Withdraws b item c n) e k (record { before = j .before; leaves = j .leaves; after = j .after }))
+    (λ q e f. let z : _≡_ {A = ℕ} 0 1 = cc in absurd (omega arith))
+    _ h refl refl
+
+-- ---- A sound board
+pub sound-demand-2 : SoundDemand2
+sound-demand-2 b sound =
+    let s = sound-is-settled b .0 sound in
+    record {
+      sum = tightness _ _ (live b) _ (matchingOf b) _ _ (s .matches) (s .tight);
+      share = λ other o. share _ _ (live b) _ _ (matchingOf b) _ _ other (s .matches) (s .tight) (sound .covers) o;
+      busy = λ i k l away lk hw e.
+          let vacant = s .tight .unheld k lk (λ h lh q. omega (arith, cell-free (holderAt b k) e, framed s .names .cell h k q .1)) in
+          omega (arith, s .tight .unplaced i l away, vacant, sound .covers i k l lk hw, mul-pos (slack-gap (s .slack .below)) hw);
+    }
+  where
+    slack-gap : {p q : ℕ} → p < q → 0 < q - p
+    slack-gap l = omega arith

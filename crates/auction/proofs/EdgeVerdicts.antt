@@ -1,0 +1,63 @@
+-- The verdicts on an arrival's edges, as the code comes to them.
+use mathlib.Core.Path.{_≡_, refl, sym, ap, _∙_}
+use mathlib.Core.Bool.{Bool, true, false, not}
+use mathlib.Core.List.{List, _++_}
+use Prim.Native.Nat.{ℕ, zero, suc, _+_, _-_, _<_}
+use native.Mathlib.Numerals.{add-one}
+use native.Mathlib.Omega.{arith}
+use lib.ListN.{getD}
+use Rattle.auction.specs.declared.refusal.Refusal.{Refusal}
+use Rattle.auction.specs.declared.refusal.Refusal.the-variants.{Unknown, Gone, Worth, Order}
+use Rattle.auction.specs.declared.refusal.Verdict.{Verdict}
+use Rattle.auction.specs.declared.refusal.Verdict.the-variants.{Served, Refused}
+use Rattle.auction.specs.Limits.{maxWeight}
+use Rattle.auction.specs.Refusals.{firstOf}
+use Rattle.auction.specs.Edges.{withinTest, orderTest, edgeChecks, edgesChecks}
+use Rattle.auction.proofs.Verdicts.{first-on, first-stops}
+
+module _ (items : ℕ) (withdrawn : List Bool) (item weight : ℕ → ℕ) where
+  -- One edge: each answer in turn
+  module _ (i : ℕ) where
+    pub unknown : withinTest items (item i) ≡ false → Refused (Unknown (i + 1)) ≡ firstOf (edgeChecks items withdrawn item weight i)
+    unfolding firstOf edgeChecks
+    unknown e = rw (e, add-one)
+
+    module _ (e₁ : withinTest items (item i) ≡ true) where
+      pub gone : getD withdrawn (item i - 1) false ≡ true → Refused (Gone (i + 1)) ≡ firstOf (edgeChecks items withdrawn item weight i)
+      unfolding firstOf edgeChecks
+      gone e = rw (e₁, e, add-one)
+
+      module _ (e₂ : getD withdrawn (item i - 1) false ≡ false) where
+        pub worth : withinTest maxWeight (weight i) ≡ false → Refused (Worth (i + 1)) ≡ firstOf (edgeChecks items withdrawn item weight i)
+        unfolding firstOf edgeChecks
+        worth e = rw (e₁, e₂, e, add-one)
+
+        module _ (e₃ : withinTest maxWeight (weight i) ≡ true) where
+          pub unordered : orderTest item i ≡ true → Refused (Order (i + 1)) ≡ firstOf (edgeChecks items withdrawn item weight i)
+          unfolding firstOf edgeChecks
+          unordered e = rw (e₁, e₂, e₃, e, add-one)
+
+          pub fine : orderTest item i ≡ false → Served ≡ firstOf (edgeChecks items withdrawn item weight i)
+          unfolding firstOf edgeChecks
+          fine e = rw (e₁, e₂, e₃, e)
+
+  -- The edges from i on
+  module _ (i n : ℕ) (l : i < n) where
+    split : edgesChecks items withdrawn item weight i (n - i) ≡ edgeChecks items withdrawn item weight i ++ edgesChecks items withdrawn item weight (suc i) (n - suc i)
+    unfolding edgesChecks
+    split = let e : n - i ≡ suc (n - suc i) = omega arith in rw e
+
+    pub edges-on : (v : Verdict) → v ≡ firstOf (edgeChecks items withdrawn item weight i) → v ≡ Served →
+        firstOf (edgesChecks items withdrawn item weight i (n - i)) ≡ firstOf (edgesChecks items withdrawn item weight (i + 1) (n - (i + 1)))
+    edges-on v e s = rw (add-one, split) (first-on _ _ (sym e ∙ s))
+
+    pub edges-stop : (v : Verdict) (r : Refusal) → v ≡ firstOf (edgeChecks items withdrawn item weight i) → v ≡ Refused r →
+        v ≡ firstOf (edgesChecks items withdrawn item weight i (n - i))
+    edges-stop v r e s = s ∙ sym (rw split (first-stops _ _ r (sym e ∙ s)))
+
+  pub edges-end : (i n : ℕ) → i ≡ n → firstOf (edgesChecks items withdrawn item weight i (n - i)) ≡ Served
+  unfolding firstOf edgesChecks
+  edges-end i n h = let e : n - i ≡ 0 = omega arith in rw e
+
+  pub edges-start : (n : ℕ) → firstOf (edgesChecks items withdrawn item weight 0 n) ≡ firstOf (edgesChecks items withdrawn item weight 0 (n - 0))
+  edges-start n = let e : n - 0 ≡ n = omega arith in rw e

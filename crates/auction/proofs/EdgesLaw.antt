@@ -1,0 +1,168 @@
+-- What it says that an arrival's edges, or a withdrawal's item, are served; and the row that the edges make.
+use mathlib.Core.Path.{_≡_, refl, ap}
+use mathlib.Core.Logic.{⊎-elim}
+use mathlib.Core.Bool.{Bool, true, false, cond}
+use mathlib.Core.List.{List, [], _∷_, _++_}
+use Prim.Native.Nat.{ℕ, zero, suc, _+_, _-_, _≤_, _<_}
+use native.Mathlib.Nat.{le-refl, eq-or-lt-of-le}
+use native.Mathlib.Omega.{arith}
+use lib.ListN.{length, getD, set, replicate, length-set}
+use lib.Seq.{getD-set-same, getD-set-other}
+use borrow.Author.Tests.{leb-false, not-false}
+use Rattle.duality.specs.Sums.{upd}
+use Rattle.duality.proofs.Below.{one-more}
+use Rattle.duality.proofs.Sums.{sumTo-eq, sumTo-zero, sumTo-upd, upd-all}
+use Rattle.auction.specs.declared.board.Auction.{Auction}
+use Rattle.auction.specs.declared.board.Edge.{Edge}
+use Rattle.auction.specs.declared.refusal.Verdict.the-variants.{Served, Refused}
+use Rattle.auction.specs.Limits.{maxItems, maxBidders, maxWeight}
+use Rattle.auction.specs.Cells.{withdrawnAt}
+use Rattle.auction.specs.Potential.{one}
+use Rattle.auction.specs.Refusals.{Check, firstOf, Within}
+use Rattle.auction.specs.Edges.{itemIn, weightIn, orderTest, edgeChecks, edgesChecks, rowTo}
+use Rattle.auction.specs.Calls.{arriveRest, withdrawRest}
+use Rattle.auction.specs.Waiting.{RowFits}
+use Rattle.auction.proofs.Tests.{within-decides}
+use Rattle.auction.proofs.Potentials.{rowCount}
+
+-- ---- Served checks
+
+-- The first test fails, and the rest is served
+pub served-next : (c : Check) (rest : List Check) → firstOf (c ∷ rest) ≡ Served → (c .test ≡ false) × (firstOf rest ≡ Served)
+unfolding firstOf
+served-next c rest e = go (c .test) refl e
+  where
+    go : (t : Bool) → c .test ≡ t → cond t (Refused (c .refusal)) (firstOf rest) ≡ Served → (c .test ≡ false) × (firstOf rest ≡ Served)
+    go true q e = let z : _≡_ {A = ℕ} 0 1 = cc in absurd (omega arith)
+    go false q e = (q, e)
+
+-- Edges that are served: each at an item of the board that is not withdrawn, its weight within limits, and items rising
+pub record Accepted (items : ℕ) (withdrawn : List Bool) (item weight : ℕ → ℕ) (n : ℕ) : Type 0 where
+  pub known : (i : ℕ) → i < n → Within 1 items (item i)
+  pub here : (i : ℕ) → i < n → getD withdrawn (item i - 1) false ≡ false
+  pub weighed : (i : ℕ) → i < n → Within 1 maxWeight (weight i)
+  pub rising : (i : ℕ) → suc i < n → item i < item (suc i)
+
+module _ (items : ℕ) (withdrawn : List Bool) (item weight : ℕ → ℕ) where
+  -- What is served of one edge
+  record Fine (i : ℕ) : Type 0 where
+    known : Within 1 items (item i)
+    here : getD withdrawn (item i - 1) false ≡ false
+    weighed : Within 1 maxWeight (weight i)
+    ordered : orderTest item i ≡ false
+
+  fine : (i : ℕ) (rest : List Check) → firstOf (edgeChecks items withdrawn item weight i ++ rest) ≡ Served → Fine i × (firstOf rest ≡ Served)
+  unfolding edgeChecks
+  fine i rest e =
+      let a = served-next _ _ e in
+      let b = served-next _ _ (a .1) in
+      let c = served-next _ _ (b .1) in
+      let d = served-next _ _ (c .1) in (
+        record {
+          known = within-decides items (item i) .sound (not-false _ (a .0));
+          here = b .0;
+          weighed = within-decides maxWeight (weight i) .sound (not-false _ (c .0));
+          ordered = d .0;
+        },
+        d .1,
+      )
+
+  each-fine : (n i : ℕ) → firstOf (edgesChecks items withdrawn item weight i n) ≡ Served → (j : ℕ) → i ≤ j → j < i + n → Fine j
+  unfolding edgesChecks
+  each-fine zero i e j l h = absurd (omega arith)
+  each-fine (suc n) i e j l h =
+      let u = fine i _ e in
+      ⊎-elim (λ (q : i ≡ j). rw q at (u .0)) (λ m. each-fine n (suc i) (u .1) j m (omega arith)) (eq-or-lt-of-le l)
+
+  pub served-edges : (n : ℕ) → firstOf (edgesChecks items withdrawn item weight 0 n) ≡ Served → Accepted items withdrawn item weight n
+  unfolding orderTest
+  served-edges n e =
+      let each = each-fine n 0 e in
+      record {
+        known = λ i l. each i (omega arith) (omega arith) .known;
+        here = λ i l. each i (omega arith) (omega arith) .here;
+        weighed = λ i l. each i (omega arith) (omega arith) .weighed;
+        rising = λ i l. leb-false _ _ (each (suc i) (omega arith) (omega arith) .ordered);
+      }
+
+pub served-arrival : (b : Auction) (edges : List Edge) → firstOf (arriveRest b edges) ≡ Served →
+    (b .arrived < maxBidders) × Accepted (b .items) (b .withdrawn) (itemIn edges) (weightIn edges) (length edges)
+unfolding arriveRest
+served-arrival b edges e = let u = served-next _ _ e in (leb-false _ _ (u .0), served-edges (b .items) (b .withdrawn) _ _ _ (u .1))
+
+pub served-withdrawal : (b : Auction) (item : ℕ) → firstOf (withdrawRest b item) ≡ Served → Within 1 (b .items) item × (withdrawnAt b (item - 1) ≡ false)
+unfolding withdrawRest
+served-withdrawal b item e =
+    let u = served-next _ _ e in (within-decides (b .items) item .sound (not-false _ (u .0)), served-next _ _ (u .1) .0)
+
+-- ---- The row that the edges make
+
+-- What holds of a number at its place, and of every cell before it is stored, holds of each cell after
+set-all : (P : ℕ → ℕ → Type 0) (l : List ℕ) (i v : ℕ) → P i v → ((j : ℕ) → P j (getD l j 0)) → (j : ℕ) → P j (getD (set l i v) j 0)
+set-all P [] i v p h j = h j
+set-all P (x ∷ l) zero v p h zero = p
+set-all P (x ∷ l) zero v p h (suc j) = h (suc j)
+set-all P (x ∷ l) (suc i) v p h zero = h zero
+set-all P (x ∷ l) (suc i) v p h (suc j) = set-all (λ j. P (suc j)) l i v p (λ j. h (suc j)) j
+
+-- A cell of equal ones, also one past the end
+pub blank : {A : Type 0} (n k : ℕ) (a : A) → getD (replicate n a) k a ≡ a
+blank zero k a = refl
+blank (suc n) zero a = refl
+blank (suc n) (suc k) a = blank n k a
+
+one-is : (w : ℕ) → 1 ≤ w → one w ≡ 1
+one-is zero h = absurd (omega arith)
+one-is (suc w) h = refl
+
+module _ (item weight : ℕ → ℕ) where
+  -- Each cell is 0, or an edge's weight
+  row-all : (P : ℕ → ℕ → Type 0) (n : ℕ) → ((k : ℕ) → P k 0) → ((i : ℕ) → i < n → P (item i - 1) (weight i)) → (k : ℕ) → P k (getD (rowTo item weight n) k 0)
+  unfolding rowTo
+  row-all P zero z f k = rw (blank {A = ℕ} maxItems k 0) (z k)
+  row-all P (suc n) z f k = set-all P (rowTo item weight n) (item n - 1) (weight n) (f n (omega arith)) (row-all P n z (λ i l. f i (omega arith))) k
+
+  pub row-length : (n : ℕ) → length (rowTo item weight n) ≡ maxItems
+  unfolding rowTo
+  row-length zero = refl
+  row-length (suc n) = simp length-set (row-length n)
+
+module _ {items : ℕ} {withdrawn : List Bool} {item weight : ℕ → ℕ} where
+  pub row-fits : {n : ℕ} → Accepted items withdrawn item weight n → RowFits items (rowTo item weight n)
+  row-fits {n} a =
+      record {
+        sized = row-length item weight n;
+        limit = λ k l. row-all item weight (λ k v. v ≤ maxWeight) n (λ k. omega arith) (λ i h. a .weighed i h .high) k;
+        bare = λ k l m. row-all item weight (λ k v. items ≤ k → v ≡ 0) n (λ k l. refl) (λ i h l. absurd (omega (arith, a .known i h .low, a .known i h .high))) k l;
+      }
+
+  fewer : {n : ℕ} → Accepted items withdrawn item weight (suc n) → Accepted items withdrawn item weight n
+  fewer a = record { known = λ i l. a .known i (omega arith); here = λ i l. a .here i (omega arith); weighed = λ i l. a .weighed i (omega arith); rising = λ i l. a .rising i (omega arith) }
+
+  -- The items before the last are below it
+  below : (n : ℕ) → Accepted items withdrawn item weight (suc n) → (i : ℕ) → i < n → item i < item n
+  below zero a i l = absurd (omega arith)
+  below (suc n) a i l = one-more n (λ i. item i < item (suc n)) (λ i h. omega (arith, below n (fewer a) i h, a .rising n (omega arith))) (a .rising n (omega arith)) i l
+
+  -- It has an edge for each
+  pub row-count : items ≤ maxItems → (n : ℕ) → Accepted items withdrawn item weight n → rowCount items (rowTo item weight n) ≡ n
+  unfolding rowTo
+  row-count h zero a = sumTo-zero items _ (λ k l. rw (blank {A = ℕ} maxItems k 0))
+  row-count h (suc n) a =
+      let r = rowTo item weight n in
+      let k = item n - 1 in
+      let known = a .known n (omega arith) in
+      let count : ℕ → ℕ = λ j. one (getD r j 0) in
+      let bare : count k ≡ 0 = ap one (row-all item weight (λ j v. k ≤ j → v ≡ 0) n (λ j l. refl)
+      (λ i l m. absurd (omega (arith, below n a i l, a .known i (omega arith) .low))) k (le-refl k)) in
+      omega (
+        arith,
+        sumTo-eq items (λ j. one (getD (set r k (weight n)) j 0)) (upd k (one (weight n)) count)
+            (λ j l. upd-all (λ j v. one (getD (set r k (weight n)) j 0) ≡ v) k (one (weight n)) count
+            (ap one (getD-set-same r k (weight n) 0 (omega (arith, row-length item weight n))))
+            (λ j ne. ap one (getD-set-other r k j (weight n) 0 ne))
+            j),
+        sumTo-upd items k (one (weight n)) count (omega arith),
+        one-is (weight n) (a .weighed n (omega arith) .low),
+        row-count h n (fewer a),
+      )

@@ -1,0 +1,54 @@
+-- Every history: the board is sound, its edges are those accepted, and its potential speaks for all the bids.
+use mathlib.Core.Path.{_≡_, refl, _∙_}
+use Prim.Native.Nat.{ℕ, _+_, _≤_}
+use native.Mathlib.Nat.{add-zero, le-trans}
+use native.Mathlib.Omega.{arith}
+use lib.ListN.{length}
+use Rattle.auction.specs.declared.board.Auction.{Auction}
+use Rattle.auction.specs.Sound.{Sound}
+use Rattle.auction.specs.Potential.{edgeCount, potential}
+use Rattle.auction.specs.Rule.{displaced}
+use Rattle.auction.specs.Calls.{opened, released}
+use Rattle.auction.specs.Demand2.{Leaves, free, held}
+use Rattle.auction.specs.Histories.{edgesAdded, arrivalBids, withdrawalBids, Reached, opens, arrives, withdraws, HistoryDemand2}
+use Rattle.auction.proofs.Potentials.{potential-within, potential-entered, count-entered}
+use Rattle.auction.proofs.Chains.{chain-count}
+use Rattle.auction.proofs.EdgesLaw.{row-count, row-length}
+use Rattle.auction.proofs.Demand2.{rowOf, arrive-all, withdraw-all}
+use Rattle.auction.proofs.Opening.{opening-sound}
+
+pub record Counted (b : Auction) (e n : ℕ) : Type 0 where
+  pub sound : Sound b
+  pub edges : edgeCount b ≡ e
+  pub bids : n ≤ potential b
+
+leaves-count : {b c : Auction} {k n : ℕ} → Leaves b k c n → edgeCount c ≡ edgeCount b
+unfolding edgeCount released displaced
+leaves-count (free e) = refl
+leaves-count (held e r) = chain-count r
+
+pub counted : {b : Auction} {e n : ℕ} → Reached b e n → Counted b e n
+unfolding edgeCount opened
+counted (opens items p q h) = record { sound = opening-sound items p q h; edges = refl; bids = omega arith }
+counted (arrives {b = b} {e = e} {n = n} edges r t h) =
+    let c = counted t in
+    arrive-all b edges (λ r. Counted (r .auction) (e + edgesAdded (r .answer) edges) (n + arrivalBids (r .answer)))
+    (λ j. let s = j .after .settles in
+    record {
+      sound = j .after .sound;
+      edges = omega (arith, c .edges, chain-count (s .chain), count-entered b (rowOf edges) (row-length _ _ (length edges)) (j .before .formed) (j .room), row-count (j .before .items .1) (length edges) (j .accepted));
+      bids = omega (arith, c .bids, j .after .ends .counted, potential-entered b (rowOf edges) (row-length _ _ (length edges)));
+    })
+    (λ q. rw (add-zero e, add-zero n) c)
+    r h
+counted (withdraws {b = b} {e = e} {n = n} item r t h) =
+    let c = counted t in
+    withdraw-all b item (λ r. Counted (r .auction) e (n + withdrawalBids (r .answer)))
+    (λ j. record { sound = j .after; edges = leaves-count (j .leaves) ∙ c .edges; bids = omega (arith, c .bids, j .counted) })
+    (λ q. rw (add-zero n) c)
+    r h
+
+pub history-demand-2 : HistoryDemand2
+history-demand-2 b e n t =
+    let c = counted t in
+    record { sound = c .sound; bids = rw (c .edges) at (le-trans (c .bids) (potential-within b)) }

@@ -1,0 +1,13 @@
+-- How many edges decide an arrival.
+use mathlib.Core.Path.{_≡_}
+use mathlib.Core.List.{List}
+use lib.ListN.{take}
+use Rattle.auction.specs.declared.board.Auction.{Auction}
+use Rattle.auction.specs.declared.board.Edge.{Edge}
+use Rattle.auction.specs.Limits.{maxEdges}
+use Rattle.auction.specs.Calls.{arriveOf}
+
+-- "in strictly rising kettle order" at 64 kettles at most: of more edges than that, one of the first 65 is refused, and what comes after is not
+-- looked at
+abbrev pub EnoughEdges : Type 0
+EnoughEdges = (b : Auction) (edges : List Edge) → arriveOf b edges ≡ arriveOf b (take maxEdges edges)

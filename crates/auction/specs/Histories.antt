@@ -1,0 +1,46 @@
+-- Histories: the boards that calls reach from an opening, with the edges accepted and the bids returned on the way.
+use mathlib.Core.Path.{_≡_}
+use mathlib.Core.List.{List}
+use Prim.Native.Nat.{ℕ, _+_, _*_, _≤_}
+use lib.ListN.{length}
+use Rattle.duality.specs.Steps.{most}
+use Rattle.auction.specs.declared.board.Auction.{Auction}
+use Rattle.auction.specs.declared.board.Edge.{Edge}
+use Rattle.auction.specs.declared.calls.Opened.{Opened}
+use Rattle.auction.specs.declared.calls.Arrived.{Arrived}
+use Rattle.auction.specs.declared.calls.Arrival.{Arrival}
+use Rattle.auction.specs.declared.calls.Withdrawn.{Withdrawn}
+use Rattle.auction.specs.declared.calls.Withdrawal.{Withdrawal}
+use Rattle.auction.specs.Sound.{Sound}
+use Rattle.auction.specs.Rule.{done}
+use Rattle.auction.specs.Calls.{opened, openOf, arriveOf, withdrawOf}
+
+-- The edges that an arrival adds, and the bids that it returns: none where it is refused
+abbrev pub edgesAdded : Arrived → List Edge → ℕ
+edgesAdded (Arrived.Bids n) edges = length edges
+edgesAdded (Arrived.Refused r) edges = 0
+
+abbrev pub arrivalBids : Arrived → ℕ
+arrivalBids (Arrived.Bids n) = n
+arrivalBids (Arrived.Refused r) = 0
+
+abbrev pub withdrawalBids : Withdrawn → ℕ
+withdrawalBids (Withdrawn.Bids n) = n
+withdrawalBids (Withdrawn.Refused r) = 0
+
+-- The board after a history, the edges accepted in it, and the sum of the bid counts that its calls returned. Calls that only read take the
+-- board by value, so a history with them reaches the same
+pub data Reached : Auction → ℕ → ℕ → Type 0 where
+  opens : (items p q : ℕ) → openOf items p q ≡ record { auction = opened items p q; answer = Opened.Ready } → Reached (opened items p q) 0 0
+  arrives : {b : Auction} {e n : ℕ} (edges : List Edge) (r : Arrival) → Reached b e n → arriveOf b edges ≡ done r →
+      Reached (r .auction) (e + edgesAdded (r .answer) edges) (n + arrivalBids (r .answer))
+  withdraws : {b : Auction} {e n : ℕ} (item : ℕ) (r : Withdrawal) → Reached b e n → withdrawOf b item ≡ done r →
+      Reached (r .auction) e (n + withdrawalBids (r .answer))
+
+-- "Over every history from opening, the bids number at most the entries ever accepted times the whole part of (q - 1)/p"
+pub record History (b : Auction) (e n : ℕ) : Type 0 where
+  pub sound : Sound b
+  pub bids : n ≤ e * most (b .slack .p) (b .slack .q)
+
+abbrev pub HistoryDemand2 : Type 0
+HistoryDemand2 = (b : Auction) (e n : ℕ) → Reached b e n → History b e n

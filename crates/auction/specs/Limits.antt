@@ -1,0 +1,25 @@
+-- The board's limits (the code's associated constants of Auction).
+use Prim.Native.Nat.{ℕ}
+
+-- "A board takes at most 64 kettles and 128 batches in its life"
+abbrev pub maxItems : ℕ
+maxItems = 64
+
+abbrev pub maxBidders : ℕ
+maxBidders = 128
+
+-- "Worths run from 1 to 1,000,000"
+abbrev pub maxWeight : ℕ
+maxWeight = 1000000
+
+-- "The slack is p/q with 1 ≤ p < q ≤ 1,000"
+abbrev pub maxQ : ℕ
+maxQ = 1000
+
+-- One edge more than there are items: so many decide every refusal of an arrival
+abbrev pub maxEdges : ℕ
+maxEdges = 65
+
+-- "text above 65,536 bytes"
+abbrev pub maxText : ℕ
+maxText = 65536

@@ -1,0 +1,125 @@
+// An arrival's edges: tested one by one, and written as a row.
+use crate::board::Auction;
+use crate::refusal::Refusal;
+use crate::refusal::Verdict;
+ghost use mathlib.Core.Path.{_≡_};
+ghost use Prim.Native.Nat.{ℕ, _+_, _*_, _≤_, _<_};
+ghost use Rattle.auction.specs.Limits.{maxItems, maxBidders, maxEdges, maxWeight};
+ghost use Rattle.auction.specs.Refusals.{firstOf, Within};
+ghost use lib.Seq.{sets};
+ghost use Rattle.duality.specs.Lists.{cells};
+ghost use Rattle.auction.specs.Edges.{withinTest, orderTest, edgeChecks, edgesChecks, rowTo};
+
+// The edges of an arrival as two lists side by side: of each edge the item's number and the weight. Only the first `count` count, and 65 at most.
+pub struct EdgeBuffer {
+    pub items: [u64; Auction::MAX_EDGES],
+    pub weights: [u64; Auction::MAX_EDGES],
+    pub count: u64,
+}
+
+// Whether a number is from 1 to a last one.
+pub(crate) fn is_within(last: u64, x: u64) -> bool
+    ensures { λ r. ⌜ r ≡ withinTest last x ⌝ }
+{
+    if x < 1 {
+        return false;
+    }
+    x <= last
+}
+
+// Whether the edge of cell i is not above the one before.
+fn is_unordered(items: &[u64; Auction::MAX_EDGES], i: usize) -> bool
+    requires { ⌜ i < maxEdges ⌝ }
+    ensures { λ r. ⌜ r ≡ orderTest (cells (now (items .entry))) i ⌝ }
+{
+    if i < 1 {
+        return false;
+    }
+    items[i] <= items[i - 1]
+}
+
+// The edge of cell i, tested.
+fn edge_verdict<'a>(
+    items: &'a [u64; Auction::MAX_EDGES],
+    weights: &'a [u64; Auction::MAX_EDGES],
+    withdrawn: &'a [bool; Auction::MAX_ITEMS],
+    known: u64,
+    i: usize,
+) -> Verdict
+    requires { ⌜ (i < maxEdges) × (known ≤ maxItems) ⌝ }
+    ensures { λ r. ⌜ r ≡ firstOf (edgeChecks known (now (withdrawn .entry)) (cells (now (items .entry))) (cells (now (weights .entry))) i) ⌝ }
+{
+    let place = i as u64 + 1;
+    let item = items[i];
+    if !is_within(known, item) {
+        return Verdict::Refused(Refusal::Unknown(place));
+    }
+    let k = (item - 1) as usize;
+    if withdrawn[k] {
+        return Verdict::Refused(Refusal::Gone(place));
+    }
+    if !is_within(Auction::MAX_WEIGHT, weights[i]) {
+        return Verdict::Refused(Refusal::Worth(place));
+    }
+    if is_unordered(items, i) {
+        return Verdict::Refused(Refusal::Order(place));
+    }
+    Verdict::Served
+}
+
+// All edges, each tested before the next.
+pub(crate) fn edges_verdict<'a>(
+    items: &'a [u64; Auction::MAX_EDGES],
+    weights: &'a [u64; Auction::MAX_EDGES],
+    withdrawn: &'a [bool; Auction::MAX_ITEMS],
+    known: u64,
+    count: usize,
+) -> Verdict
+    requires { ⌜ (count ≤ maxEdges) × (known ≤ maxItems) ⌝ }
+    ensures { λ r. ⌜ r ≡ firstOf (edgesChecks known (now (withdrawn .entry)) (cells (now (items .entry))) (cells (now (weights .entry))) 0 count) ⌝ }
+{
+    let mut i: usize = 0;
+    while i < count {
+        let verdict = edge_verdict(items, weights, withdrawn, known, i);
+        let Verdict::Served = verdict else {
+            return verdict;
+        };
+        i += 1;
+    }
+    Verdict::Served
+}
+
+// The row that tested edges make.
+pub(crate) fn row_of<'a>(
+    items: &'a [u64; Auction::MAX_EDGES],
+    weights: &'a [u64; Auction::MAX_EDGES],
+    count: usize,
+) -> [u32; Auction::MAX_ITEMS]
+    requires { ⌜ (count ≤ maxEdges) × ((i : ℕ) → i < count → Within 1 maxItems (cells (now items) i) × Within 1 maxWeight (cells (now weights) i)) ⌝ }
+    ensures { λ r. ⌜ r ≡ rowTo (cells (now (items .entry))) (cells (now (weights .entry))) count ⌝ }
+{
+    let mut row = [0u32; Auction::MAX_ITEMS];
+    let mut i: usize = 0;
+    while i < count {
+        let k = (items[i] - 1) as usize;
+        row[k] = weights[i] as u32;
+        i += 1;
+    }
+    row
+}
+
+// A row, written among the weights from a cell on.
+pub(crate) fn file_row(
+    weights: &mut [u32; Auction::MAX_CELLS],
+    from: usize,
+    row: [u32; Auction::MAX_ITEMS],
+)
+    requires { ⌜ from + maxItems ≤ maxBidders * maxItems ⌝ }
+    ensures { λ _. ⌜ now (weights .exit) ≡ sets (now (weights .entry)) from row ⌝ }
+{
+    let mut k: usize = 0;
+    while k < Auction::MAX_ITEMS {
+        weights[from + k] = row[k];
+        k += 1;
+    }
+}

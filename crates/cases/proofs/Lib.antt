@@ -1,0 +1,3 @@
+pub mod Skips
+pub mod Table
+pub mod Text

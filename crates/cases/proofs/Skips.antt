@@ -1,0 +1,111 @@
+-- A case is played on sound boards, so the test of soundness need not be computed again at each call.
+use mathlib.Core.Path.{_≡_, refl, sym, ap, _∙_}
+use mathlib.Core.Bool.{not}
+use mathlib.Core.List.{List, [], _∷_}
+use Prim.Native.Nat.{ℕ}
+use native.Mathlib.Omega.{arith}
+use lib.ListN.{length}
+use Rattle.auction.specs.declared.refusal.Refusal.the-variants.{Slack, Uneven}
+use Rattle.auction.specs.declared.refusal.Verdict.{Verdict}
+use Rattle.auction.specs.declared.board.Auction.{Auction}
+use Rattle.auction.specs.declared.board.Edge.{Edge}
+use Rattle.auction.specs.declared.calls.Arrived.{Arrived}
+use Rattle.auction.specs.declared.calls.Arrival.{Arrival}
+use Rattle.auction.specs.declared.calls.Withdrawn.{Withdrawn}
+use Rattle.auction.specs.declared.calls.Withdrawal.{Withdrawal}
+use Rattle.auction.specs.declared.calls.Opened.{Opened}
+use Rattle.auction.specs.declared.calls.Opening.{Opening}
+use Rattle.auction.specs.Sound.{Sound}
+use Rattle.auction.specs.Rule.{Outcome, done, spent}
+use Rattle.auction.specs.Refusals.{codeOf, firstOf, Check}
+use Rattle.auction.specs.Refusals as Refusals
+use Rattle.auction.specs.Calls.{Lists, slackTest, opened, openOf, arriveRest, arriveBy, arriveOf, withdrawRest, withdrawBy, withdrawOf, openChecks, openBy}
+use Rattle.certificate.specs.Check.{evenTest, checkChecks, checkBy, checkOf}
+use Rattle.certificate.specs.Lent.{listChecks}
+use Rattle.auction.proofs.SoundLaw.{sound-decides}
+use Rattle.auction.proofs.Demand2.{arrive-demand-2, withdraw-demand-2}
+use Rattle.auction.proofs.Opening.{opening-sound}
+use Rattle.cases.specs.Play.{Call, arrive, withdraw, check, afterCheck, Case, Seen, refusal, seen, played, withdrew, afterArrive, afterWithdraw, playAll, opening, play}
+
+-- The check's own checks, after that of soundness
+unfoldable pub checkRest : Auction → Lists → ℕ → ℕ → List Check
+checkRest b l p q =
+    Refusals.check Slack (not (slackTest 0 p q)) ∷
+    (Refusals.check Uneven (not (evenTest (b .arrived) (b .items) (length (l .plan)) (length (l .prices)) (length (l .gains)))) ∷ listChecks b l p q)
+
+-- The calls without the test
+unfoldable pub skipAll : List Call → Auction → List ℕ → Seen
+skipAll [] b bids = seen b bids
+skipAll (arrive edges ∷ rest) b bids = afterArrive (skipAll rest) bids (arriveBy b edges (firstOf (arriveRest b edges)))
+skipAll (withdraw item ∷ rest) b bids = afterWithdraw (skipAll rest) bids (withdrawBy b item (firstOf (withdrawRest b item)))
+skipAll (check l p q ∷ rest) b bids = afterCheck (checkBy b l (firstOf (checkRest b l p q)))
+
+pub arrive-skips : (b : Auction) (edges : List Edge) → Sound b → arriveOf b edges ≡ arriveBy b edges (firstOf (arriveRest b edges))
+unfolding arriveOf firstOf
+arrive-skips b edges s = let e = sound-decides b .complete s in rw e
+
+pub withdraw-skips : (b : Auction) (item : ℕ) → Sound b → withdrawOf b item ≡ withdrawBy b item (firstOf (withdrawRest b item))
+unfolding withdrawOf firstOf
+withdraw-skips b item s = let e = sound-decides b .complete s in rw e
+
+check-skips : (b : Auction) (l : Lists) (p q : ℕ) → Sound b → checkOf b l p q ≡ checkBy b l (firstOf (checkRest b l p q))
+unfolding checkOf checkChecks checkRest listChecks firstOf
+check-skips b l p q s = let e = sound-decides b .complete s in rw e
+
+module _ (rest : List Call) (ih : (b : Auction) (bids : List ℕ) → Sound b → playAll rest b bids ≡ skipAll rest b bids) where
+  after-arrive : (b : Auction) (edges : List Edge) (bids : List ℕ) (o : Outcome Arrival) → arriveOf b edges ≡ o →
+      afterArrive (playAll rest) bids o ≡ afterArrive (skipAll rest) bids o
+  unfolding afterArrive played
+  after-arrive b edges bids spent e = refl
+  after-arrive b edges bids (done a) e = go (a .answer) refl
+    where
+      go : (x : Arrived) → a .answer ≡ x → played (playAll rest) bids (a .auction) x ≡ played (skipAll rest) bids (a .auction) x
+      go (Arrived.Bids n) h =
+          let f : arriveOf b edges ≡ done (record { auction = a .auction; answer = Arrived.Bids n }) = rw (← h) e in
+          ih (a .auction) (n ∷ bids) (arrive-demand-2 b (a .auction) edges n f .after)
+      go (Arrived.Refused r) h = refl
+
+  after-withdraw : (b : Auction) (item : ℕ) (bids : List ℕ) (o : Outcome Withdrawal) → withdrawOf b item ≡ o →
+      afterWithdraw (playAll rest) bids o ≡ afterWithdraw (skipAll rest) bids o
+  unfolding afterWithdraw withdrew
+  after-withdraw b item bids spent e = refl
+  after-withdraw b item bids (done a) e = go (a .answer) refl
+    where
+      go : (x : Withdrawn) → a .answer ≡ x → withdrew (playAll rest) bids (a .auction) x ≡ withdrew (skipAll rest) bids (a .auction) x
+      go (Withdrawn.Bids n) h =
+          let f : withdrawOf b item ≡ done (record { auction = a .auction; answer = Withdrawn.Bids n }) = rw (← h) e in
+          ih (a .auction) (n ∷ bids) (withdraw-demand-2 b (a .auction) item n f .after)
+      go (Withdrawn.Refused r) h = refl
+
+all-skip : (calls : List Call) (b : Auction) (bids : List ℕ) → Sound b → playAll calls b bids ≡ skipAll calls b bids
+unfolding playAll skipAll
+all-skip [] b bids s = refl
+all-skip (arrive edges ∷ rest) b bids s =
+    after-arrive rest (all-skip rest) b edges bids _ refl ∙ ap (afterArrive (skipAll rest) bids) (arrive-skips b edges s)
+all-skip (withdraw item ∷ rest) b bids s =
+    after-withdraw rest (all-skip rest) b item bids _ refl ∙ ap (afterWithdraw (skipAll rest) bids) (withdraw-skips b item s)
+all-skip (check l p q ∷ rest) b bids s = ap afterCheck (check-skips b l p q s)
+
+unfoldable pub skipOpening : List Call → Auction → Opened → Seen
+skipOpening calls b Opened.Ready = skipAll calls b []
+skipOpening calls b (Opened.Refused r) = refusal (codeOf r)
+
+unfoldable pub skip : Case → Seen
+skip c = skipOpening (c .calls) (openOf (c .items) (c .p) (c .q) .auction) (openOf (c .items) (c .p) (c .q) .answer)
+
+pub ready-sound : (items p q : ℕ) → openOf items p q .answer ≡ Opened.Ready → Sound (openOf items p q .auction)
+unfolding openOf openBy
+ready-sound items p q h = go (firstOf (openChecks items p q)) refl h
+  where
+    go : (v : Verdict) → firstOf (openChecks items p q) ≡ v → openBy items p q v .answer ≡ Opened.Ready → Sound (openBy items p q v .auction)
+    go (Verdict.Refused r) e h = let z : _≡_ {A = ℕ} 0 1 = cc in absurd (omega arith)
+    go Verdict.Served e h = opening-sound items p q (rw e)
+
+pub play-skips : (c : Case) → play c ≡ skip c
+unfolding play opening skip skipOpening
+play-skips c = go (openOf (c .items) (c .p) (c .q) .answer) refl
+  where
+    go : (a : Opened) → openOf (c .items) (c .p) (c .q) .answer ≡ a →
+        opening (c .calls) (openOf (c .items) (c .p) (c .q) .auction) a ≡ skipOpening (c .calls) (openOf (c .items) (c .p) (c .q) .auction) a
+    go Opened.Ready e = all-skip (c .calls) _ [] (ready-sound (c .items) (c .p) (c .q) e)
+    go (Opened.Refused r) e = refl

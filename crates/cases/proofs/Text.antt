@@ -1,0 +1,105 @@
+-- Case 1 as a text, by computation. The boards on the way are sound, so the test of soundness need not be computed.
+use mathlib.Core.Path.{_≡_, refl, ap, _∙_}
+use mathlib.Core.Bool.{Bool, true, false, cond}
+use mathlib.Core.List.{List, [], _∷_}
+use Prim.Native.Nat.{ℕ, zero, suc, _+_}
+use lib.ListN.{length}
+use lib.Dec.{ltb}
+use Rattle.text.specs.Number.{fieldAt}
+use Rattle.text.specs.Line.{fieldsAt, lineAt}
+use Rattle.text.specs.Print.{decimal}
+use Rattle.auction.specs.declared.board.Auction.{Auction}
+use Rattle.auction.specs.declared.board.Edge.{Edge}
+use Rattle.auction.specs.declared.calls.Arrived.{Arrived}
+use Rattle.auction.specs.declared.calls.Arrival.{Arrival}
+use Rattle.auction.specs.declared.calls.Withdrawn.{Withdrawn}
+use Rattle.auction.specs.declared.calls.Withdrawal.{Withdrawal}
+use Rattle.auction.specs.declared.replay.Replayed.{Replayed}
+use Rattle.auction.specs.Sound.{Sound}
+use Rattle.auction.specs.Live.{heldBy}
+use Rattle.auction.specs.Potential.{edgeCount}
+use Rattle.auction.specs.Rule.{Outcome, done, spent, offerOf, bestOf, placedAt, displaced, handOver, bidOf, settleOf}
+use Rattle.auction.specs.Edges.{withinTest, orderTest, edgeChecks, edgesChecks, rowTo}
+use Rattle.auction.specs.Refusals.{firstOf}
+use Rattle.auction.specs.Calls.{opened, slackTest, openBy, openOf, entered, arrivalOf, arrivedOf, arriveRest, arriveBy, arriveOf, withdrawRest, withdrawBy, withdrawOf}
+use Rattle.auction.specs.Replay.{pairsOf, Entry, opens, arrives, withdraws, malformed, entryOf, finished, afterArrived, afterArrival, afterWithdrawn, afterWithdrawal, carryOut, linesFrom, afterOpened, firstLine, replayOf}
+use Rattle.auction.proofs.Demand2.{arrive-demand-2, withdraw-demand-2}
+use Rattle.history.specs.Output.{bidderLines, itemLines, outputOf}
+use Rattle.history.specs.Plan.{sheetOf, printedBy, printed}
+use Rattle.cases.specs.Text.{text1, printed1, Text1, Starred}
+use Rattle.cases.proofs.Skips.{arrive-skips, withdraw-skips, ready-sound}
+use Rattle.cases.proofs.Table.{cases}
+
+-- The lines without the test
+unfoldable skipOut : (Auction → ℕ → Outcome Replayed) → ℕ → Auction → ℕ → Entry → Outcome Replayed
+skipOut next n b bids (opens k p q) = carryOut next n b bids (opens k p q)
+skipOut next n b bids (arrives edges) = afterArrival next n bids (arriveBy b edges (firstOf (arriveRest b edges)))
+skipOut next n b bids (withdraws item) = afterWithdrawal next n bids (withdrawBy b item (firstOf (withdrawRest b item)))
+skipOut next n b bids malformed = carryOut next n b bids malformed
+
+unfoldable skipLines : ℕ → List ℕ → ℕ → ℕ → Auction → ℕ → Outcome Replayed
+skipLines zero s at n b bids = spent
+skipLines (suc fuel) s at n b bids =
+    cond (ltb at (length s))
+    (skipOut (λ c more. skipLines fuel s (lineAt s at .next) (n + 1) c more) n b bids (entryOf (lineAt s at)))
+    (finished b bids)
+
+module _ (next skip : Auction → ℕ → Outcome Replayed) (ih : (b : Auction) (bids : ℕ) → Sound b → next b bids ≡ skip b bids) where
+  arrivals : (n : ℕ) (b : Auction) (bids : ℕ) (edges : List Edge) (o : Outcome Arrival) → arriveOf b edges ≡ o → afterArrival next n bids o ≡ afterArrival skip n bids o
+  unfolding afterArrival afterArrived
+  arrivals n b bids edges spent e = refl
+  arrivals n b bids edges (done a) e = go (a .answer) refl
+    where
+      go : (x : Arrived) → a .answer ≡ x → afterArrived next n (a .auction) bids x ≡ afterArrived skip n (a .auction) bids x
+      go (Arrived.Bids k) h =
+          let f : arriveOf b edges ≡ done (record { auction = a .auction; answer = Arrived.Bids k }) = rw (← h) e in
+          ih (a .auction) (bids + k) (arrive-demand-2 b (a .auction) edges k f .after)
+      go (Arrived.Refused r) h = refl
+
+  withdrawals : (n : ℕ) (b : Auction) (bids item : ℕ) (o : Outcome Withdrawal) → withdrawOf b item ≡ o → afterWithdrawal next n bids o ≡ afterWithdrawal skip n bids o
+  unfolding afterWithdrawal afterWithdrawn
+  withdrawals n b bids item spent e = refl
+  withdrawals n b bids item (done a) e = go (a .answer) refl
+    where
+      go : (x : Withdrawn) → a .answer ≡ x → afterWithdrawn next n (a .auction) bids x ≡ afterWithdrawn skip n (a .auction) bids x
+      go (Withdrawn.Bids k) h =
+          let f : withdrawOf b item ≡ done (record { auction = a .auction; answer = Withdrawn.Bids k }) = rw (← h) e in
+          ih (a .auction) (bids + k) (withdraw-demand-2 b (a .auction) item k f .after)
+      go (Withdrawn.Refused r) h = refl
+
+  line-skips : (n : ℕ) (b : Auction) (bids : ℕ) → Sound b → (x : Entry) → carryOut next n b bids x ≡ skipOut skip n b bids x
+  unfolding carryOut skipOut
+  line-skips n b bids s (opens k p q) = refl
+  line-skips n b bids s (arrives edges) = arrivals n b bids edges _ refl ∙ ap (afterArrival skip n bids) (arrive-skips b edges s)
+  line-skips n b bids s (withdraws item) = withdrawals n b bids item _ refl ∙ ap (afterWithdrawal skip n bids) (withdraw-skips b item s)
+  line-skips n b bids s malformed = refl
+
+lines-skip : (fuel : ℕ) (s : List ℕ) (at n : ℕ) (b : Auction) (bids : ℕ) → Sound b → linesFrom fuel s at n b bids ≡ skipLines fuel s at n b bids
+unfolding linesFrom skipLines
+lines-skip zero s at n b bids sound = refl
+lines-skip (suc fuel) s at n b bids sound =
+    ap (λ x. cond (ltb at (length s)) x (finished b bids))
+    (line-skips (λ c more. linesFrom fuel s (lineAt s at .next) (n + 1) c more) (λ c more. skipLines fuel s (lineAt s at .next) (n + 1) c more)
+    (λ c more. lines-skip fuel s (lineAt s at .next) (n + 1) c more) n b bids sound (entryOf (lineAt s at)))
+
+opened-1 : replayOf text1 ≡ linesFrom (suc (length text1)) text1 9 2 (openOf 2 1 10 .auction) 0
+unfolding replayOf firstLine afterOpened entryOf lineAt fieldsAt fieldAt openOf openBy slackTest withinTest firstOf
+opened-1 = refl
+
+sound-1 : Sound (openOf 2 1 10 .auction)
+unfolding openOf openBy slackTest withinTest firstOf
+sound-1 = ready-sound 2 1 10 refl
+
+computed-1 : printed (skipLines (suc (length text1)) text1 9 2 (openOf 2 1 10 .auction) 0) ≡ printed1
+unfolding
+    skipLines skipOut lineAt fieldsAt fieldAt entryOf pairsOf afterArrival afterArrived printed printedBy outputOf bidderLines itemLines decimal
+    heldBy edgeCount offerOf bestOf placedAt displaced handOver bidOf settleOf firstOf withinTest orderTest edgeChecks edgesChecks rowTo
+    opened slackTest openBy openOf arriveRest entered arrivalOf arrivedOf arriveBy
+computed-1 = refl
+
+pub text-1 : Text1
+unfolding sheetOf
+text-1 = ap printed (opened-1 ∙ lines-skip (suc (length text1)) text1 9 2 (openOf 2 1 10 .auction) 0 sound-1) ∙ computed-1
+
+pub starred : Starred
+starred = record { calls = cases; text = text-1 }

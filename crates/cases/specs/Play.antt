@@ -1,0 +1,96 @@
+-- A history of calls, played over the meanings of the calls.
+use mathlib.Core.List.{List, [], _∷_, map}
+use Prim.Native.Nat.{ℕ, zero, suc, _+_}
+use lib.ListN.{take}
+use Rattle.duality.specs.Matching.{weightOf}
+use Rattle.duality.specs.Cover.{total}
+use Rattle.duality.specs.Greatest.{greatestWeight}
+use Rattle.auction.specs.declared.board.Auction.{Auction}
+use Rattle.auction.specs.declared.board.Edge.{Edge}
+use Rattle.auction.specs.declared.refusal.Refusal.{Refusal}
+use Rattle.auction.specs.declared.calls.Opened.{Opened}
+use Rattle.auction.specs.declared.calls.Opening.{Opening}
+use Rattle.auction.specs.declared.calls.Arrived.{Arrived}
+use Rattle.auction.specs.declared.calls.Arrival.{Arrival}
+use Rattle.auction.specs.declared.calls.Withdrawn.{Withdrawn}
+use Rattle.auction.specs.declared.calls.Withdrawal.{Withdrawal}
+use Rattle.auction.specs.Cells.{edge, priceAt, gainAt}
+use Rattle.auction.specs.Live.{live, matchingOf}
+use Rattle.auction.specs.Rule.{Outcome, done, spent}
+use Rattle.auction.specs.Refusals.{Code, codeOf}
+use Rattle.auction.specs.Calls.{Lists, openOf, arriveOf, withdrawOf}
+use Rattle.certificate.specs.declared.Checked.{Checked}
+use Rattle.certificate.specs.Check.{checkOf}
+
+-- A call after opening
+pub data Call : Type 0 where
+  arrive : List Edge → Call
+  withdraw : ℕ → Call
+  check : Lists → ℕ → ℕ → Call
+
+-- A case: a board to open, and the calls on it
+pub record Case : Type 0 where
+  pub items : ℕ
+  pub p : ℕ
+  pub q : ℕ
+  pub calls : List Call
+
+abbrev pub on : ℕ → ℕ → ℕ → List Call → Case
+on items p q calls = record { items = items; p = p; q = q; calls = calls }
+
+-- What is seen at the end: the matching, gains and prices, the matching's weight, the sum of prices and gains, the greatest weight, the bids of each
+-- call; or a check's two totals; or the refusal that stopped the case, by number and place
+pub data Seen : Type 0 where
+  board : List ℕ → List ℕ → List ℕ → ℕ → ℕ → ℕ → List ℕ → Seen
+  totals : ℕ → ℕ → Seen
+  refused : ℕ → ℕ → Seen
+  unended : Seen
+
+abbrev pub refusal : Code → Seen
+refusal c = refused (c .number) (c .place)
+
+-- The first n values of a function
+abbrev pub firstOf : ℕ → (ℕ → ℕ) → List ℕ
+firstOf zero f = []
+firstOf (suc n) f = f 0 ∷ firstOf n (λ i. f (suc i))
+
+abbrev pub seen : Auction → List ℕ → Seen
+seen b bids =
+    board (firstOf (b .arrived) (matchingOf b)) (firstOf (b .arrived) (gainAt b)) (firstOf (b .items) (priceAt b))
+    (weightOf (b .arrived) (live b) (matchingOf b)) (total (b .arrived) (b .items) (priceAt b) (gainAt b))
+    (greatestWeight (b .arrived) (b .items) (live b)) bids
+
+unfoldable pub played : (Auction → List ℕ → Seen) → List ℕ → Auction → Arrived → Seen
+played next bids b (Arrived.Bids n) = next b (n ∷ bids)
+played next bids b (Arrived.Refused r) = refusal (codeOf r)
+
+unfoldable pub withdrew : (Auction → List ℕ → Seen) → List ℕ → Auction → Withdrawn → Seen
+withdrew next bids b (Withdrawn.Bids n) = next b (n ∷ bids)
+withdrew next bids b (Withdrawn.Refused r) = refusal (codeOf r)
+
+unfoldable pub afterArrive : (Auction → List ℕ → Seen) → List ℕ → Outcome Arrival → Seen
+afterArrive next bids spent = unended
+afterArrive next bids (done a) = played next bids (a .auction) (a .answer)
+
+unfoldable pub afterWithdraw : (Auction → List ℕ → Seen) → List ℕ → Outcome Withdrawal → Seen
+afterWithdraw next bids spent = unended
+afterWithdraw next bids (done a) = withdrew next bids (a .auction) (a .answer)
+
+-- A check is the last call
+unfoldable pub afterCheck : Checked → Seen
+afterCheck (Checked.Totals weight sum) = totals (weight .0) (sum .0)
+afterCheck (Checked.Refused r) = refusal (codeOf r)
+
+-- The calls in turn; the bids of the last call first
+unfoldable pub playAll : List Call → Auction → List ℕ → Seen
+playAll [] b bids = seen b bids
+playAll (arrive edges ∷ rest) b bids = afterArrive (playAll rest) bids (arriveOf b edges)
+playAll (withdraw item ∷ rest) b bids = afterWithdraw (playAll rest) bids (withdrawOf b item)
+playAll (check l p q ∷ rest) b bids = afterCheck (checkOf b l p q)
+
+unfoldable pub opening : List Call → Auction → Opened → Seen
+opening calls b Opened.Ready = playAll calls b []
+opening calls b (Opened.Refused r) = refusal (codeOf r)
+
+unfoldable pub play : Case → Seen
+play c = opening (c .calls) (openOf (c .items) (c .p) (c .q) .auction) (openOf (c .items) (c .p) (c .q) .answer)

@@ -1,0 +1,56 @@
+-- The table of the starred cases: each case as document 01 gives it, and what is seen.
+use mathlib.Core.Path.{_≡_}
+use mathlib.Core.List.{List, [], _∷_, map}
+use Prim.Native.Nat.{ℕ}
+use Rattle.auction.specs.Cells.{edge}
+use Rattle.auction.specs.Calls.{Lists, lists}
+use Rattle.cases.specs.Play.{Call, arrive, withdraw, check, Case, on, Seen, board, totals, refused, play}
+
+-- 1 "The text above"
+abbrev pub case1 : List Call
+case1 = arrive (edge 1 100 ∷ (edge 2 60 ∷ [])) ∷ (arrive (edge 1 90 ∷ []) ∷ [])
+
+-- The same, and a check at 0/1
+abbrev pub after1 : Lists → List Call
+after1 l = arrive (edge 1 100 ∷ (edge 2 60 ∷ [])) ∷ (arrive (edge 1 90 ∷ []) ∷ (check l 0 1 ∷ []))
+
+pub record Row : Type 0 where
+  pub case : Case
+  pub seen : Seen
+
+abbrev pub row : Case → Seen → Row
+row c s = record { case = c; seen = s }
+
+unfoldable pub table : List Row
+table =
+    -- 1: batch 1 on kettle 2 at gain 600, batch 2 on kettle 1 at 420; prices 570 and 60; worth 150, sum 1650, greatest worth 150, 7 bids in all
+    row (on 2 1 10 case1) (board (2 ∷ (1 ∷ [])) (600 ∷ (420 ∷ [])) (570 ∷ (60 ∷ [])) 150 1650 150 (6 ∷ (1 ∷ []))) ∷
+    -- 2 "Then kettle 1 withdrawn: batch 2 unplaced, worth 60, sum 660, no bid"
+    (row (on 2 1 10 (arrive (edge 1 100 ∷ (edge 2 60 ∷ [])) ∷ (arrive (edge 1 90 ∷ []) ∷ (withdraw 1 ∷ []))))
+    (board (2 ∷ (0 ∷ [])) (600 ∷ (0 ∷ [])) (0 ∷ (60 ∷ [])) 60 660 60 (0 ∷ (6 ∷ (1 ∷ [])))) ∷
+    -- 3 "One kettle, 9/10; batches worth 100, then 500: the second stays out; sum 1900, greatest worth 500"
+    (row (on 1 9 10 (arrive (edge 1 100 ∷ []) ∷ (arrive (edge 1 500 ∷ []) ∷ [])))
+    (board (1 ∷ (0 ∷ [])) (1000 ∷ (0 ∷ [])) (900 ∷ []) 100 1900 500 (0 ∷ (1 ∷ []))) ∷
+    -- 4 "At slack 1/2, one kettle, worths 100 and 100: equality, second stays out; sum 300"
+    (row (on 1 1 2 (arrive (edge 1 100 ∷ []) ∷ (arrive (edge 1 100 ∷ []) ∷ [])))
+    (board (1 ∷ (0 ∷ [])) (200 ∷ (0 ∷ [])) (100 ∷ []) 100 300 100 (0 ∷ (1 ∷ []))) ∷
+    -- 5 "Entries 50 and 50 on kettles 1 and 2: kettle 1"
+    (row (on 2 1 2 (arrive (edge 1 50 ∷ (edge 2 50 ∷ [])) ∷ [])) (board (1 ∷ []) (100 ∷ []) (50 ∷ (0 ∷ [])) 50 150 50 (1 ∷ [])) ∷
+    -- 6 "Empty arrival: accepted, no bids"
+    (row (on 2 1 2 (arrive [] ∷ [])) (board (0 ∷ []) (0 ∷ []) (0 ∷ (0 ∷ [])) 0 0 0 (0 ∷ [])) ∷
+    -- 7 "After case 1, check at 0/1 with the printed plan, prices 40, 0, gains 60, 50: totals 150 and 150"
+    (row (on 2 1 10 (after1 (lists (2 ∷ (1 ∷ [])) (40 ∷ (0 ∷ [])) (60 ∷ (50 ∷ []))))) (totals 150 150) ∷
+    -- 8 "Price 39 for 40: 12 at batch 1"
+    (row (on 2 1 10 (after1 (lists (2 ∷ (1 ∷ [])) (39 ∷ (0 ∷ [])) (60 ∷ (50 ∷ []))))) (refused 12 1) ∷
+    -- 10 "Opening with 5/5: 2"
+    (row (on 1 5 5 []) (refused 2 0) ∷
+    -- 14 "Kettle withdrawn twice: 5"
+    (row (on 2 1 10 (withdraw 1 ∷ (withdraw 1 ∷ []))) (refused 5 0) ∷
+    -- 15 "At slack 1/2, two kettles; batch 1 has 60 on kettle 1, batch 2 has 61 on kettle 1 and 30 on kettle 2, batch 3 has 121 on kettle 1: batch
+    -- 2 ends on kettle 1, the others unplaced, two bids; sum 183, greatest worth 151"
+    (row (on 2 1 2 (arrive (edge 1 60 ∷ []) ∷ (arrive (edge 1 61 ∷ (edge 2 30 ∷ [])) ∷ (arrive (edge 1 121 ∷ []) ∷ []))))
+    (board (0 ∷ (1 ∷ (0 ∷ []))) (0 ∷ (62 ∷ (0 ∷ []))) (121 ∷ (0 ∷ [])) 61 183 151 (0 ∷ (1 ∷ (1 ∷ [])))) ∷ []))))))))))
+
+-- Each case is seen as the table has it
+abbrev pub Cases : Type 0
+Cases = map (λ r. play (r .case)) table ≡ map (λ r. r .seen) table

@@ -1,0 +1,75 @@
+-- What the check accepts, both ways.
+use mathlib.Core.Path.{_≡_, refl, _∙_}
+use Prim.Native.Nat.{ℕ, zero, suc, _≤_, _<_}
+use native.Mathlib.Omega.{arith}
+use Rattle.duality.specs.Matching.{IsMatching}
+use Rattle.duality.specs.Lists.{cells}
+use Rattle.auction.specs.declared.board.Auction.{Auction}
+use Rattle.auction.specs.declared.refusal.Verdict.the-variants.{Served}
+use Rattle.auction.specs.Sound.{Sound, SlackIn}
+use Rattle.auction.specs.Refusals.{firstOf}
+use Rattle.auction.specs.Calls.{Lists}
+use Rattle.auction.proofs.Tests.{slack-decides}
+use Rattle.auction.proofs.SoundLaw.{sound-decides}
+use Rattle.auction.proofs.Verdicts.{first-on}
+use Rattle.certificate.specs.Check.{Even, checkChecks, checkBy, checkOf}
+use Rattle.certificate.specs.Accepted.{Accepted, TotalsAccepted, AcceptedTotals}
+use Rattle.certificate.specs.Lent.{listChecks}
+use Rattle.certificate.proofs.Places.{served-next, next-serves, served-both}
+use Rattle.certificate.proofs.Served.{clash-served, price-served, gain-served, bare-served}
+use Rattle.certificate.proofs.Tests.{lists-even}
+use Rattle.certificate.proofs.Outcomes.{by-totals}
+
+-- A plan's cells are items of the board, or 0
+pub cell-within : {n m : ℕ} {w : ℕ → ℕ → ℕ} {plan : ℕ → ℕ} → IsMatching n m w plan → (i : ℕ) → i < n → plan i ≤ m
+cell-within {m = m} {plan = plan} h i l = go (plan i) refl
+  where
+    go : (c : ℕ) → plan i ≡ c → c ≤ m
+    go zero e = omega arith
+    go (suc k) e = h .along i k l e .0
+
+module _ (b : Auction) (l : Lists) (p q : ℕ) where
+  -- Of a sound board, a slack in its range and lists of the right lengths, the lists' own refusals decide
+  pub lists-accepted : Sound b → SlackIn 0 p q → Even b l → firstOf (listChecks b l p q) ≡ Served → Accepted b l p q
+  unfolding listChecks
+  lists-accepted sound slack even e =
+      let (plan, e₁) = served-both _ _ e in
+      let (prices, e₂) = served-both _ _ e₁ in
+      let (gains, bare) = served-both _ _ e₂ in
+      record {
+        sound = sound;
+        slack = slack;
+        even = even;
+        matches = clash-served b (b .arrived) (cells (l .plan)) .0 plan;
+        prices = λ k h. price-served b (b .items) (cells (l .prices)) .0 prices k h .0;
+        withdrawn = λ k h. price-served b (b .items) (cells (l .prices)) .0 prices k h .1;
+        gains = gain-served (b .items) (b .arrived) (cells (l .gains)) .0 gains;
+        covers = bare-served b (b .arrived) p q (cells (l .prices)) (cells (l .gains)) .0 bare;
+      }
+
+  accepted : firstOf (checkChecks b l p q) ≡ Served → Accepted b l p q
+  unfolding checkChecks listChecks
+  accepted e =
+      let (sound, e₁) = served-next _ _ _ e in
+      let (slack, e₂) = served-next _ _ _ e₁ in
+      let (even, e₃) = served-next _ _ _ e₂ in
+      lists-accepted (sound-decides b .sound sound) (slack-decides 0 p q .sound slack) (lists-even b l .sound even) e₃
+
+  served : Accepted b l p q → firstOf (checkChecks b l p q) ≡ Served
+  unfolding checkChecks
+  served a =
+      next-serves _ _ _ (sound-decides b .complete (a .sound))
+      (next-serves _ _ _ (slack-decides 0 p q .complete (a .slack))
+      (next-serves _ _ _ (lists-even b l .complete (a .even))
+      (first-on _ _ (clash-served b (b .arrived) (cells (l .plan)) .1 (a .matches)) ∙
+      (first-on _ _ (price-served b (b .items) (cells (l .prices)) .1 (λ k h. (a .prices k h, a .withdrawn k h))) ∙
+      (first-on _ _ (gain-served (b .items) (b .arrived) (cells (l .gains)) .1 (a .gains)) ∙
+      bare-served b (b .arrived) p q (cells (l .prices)) (cells (l .gains)) .1 (a .covers))))))
+
+pub totals-accepted : TotalsAccepted
+unfolding checkOf
+totals-accepted b l p q weight sum e = accepted b l p q (by-totals b l _ weight sum e)
+
+pub accepted-totals : AcceptedTotals
+unfolding checkOf checkBy
+accepted-totals b l p q a = rw (served b l p q a)

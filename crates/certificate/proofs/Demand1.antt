@@ -1,0 +1,196 @@
+-- Demand 1 of the check, from the one law of verdicts.
+use mathlib.Core.Path.{_≡_, refl, ap}
+use mathlib.Core.Bool.{Bool, true, false, cond}
+use mathlib.Core.Logic.{_⊎_, inl, inr, ⊎-elim}
+use Prim.Native.Nat.{ℕ, zero, suc, _+_, _-_, _*_, _≤_, _<_}
+use native.Mathlib.Nat.{suc-inj, mul-zero}
+use native.Mathlib.Omega.{arith}
+use Rattle.duality.specs.Lists.{cells}
+use Rattle.duality.specs.Tests.{freshTest, cellTest}
+use Rattle.duality.proofs.Decide.{reword, eq-decides, true-decides, clash}
+use Rattle.auction.specs.declared.board.Auction.{Auction}
+use Rattle.auction.specs.declared.refusal.Refusal.{Refusal}
+use Rattle.auction.specs.declared.refusal.Refusal.the-variants.{Slack, Uneven, Clash, Price, Bare, Spoilt}
+use Rattle.auction.specs.declared.refusal.Verdict.{Verdict}
+use Rattle.auction.specs.declared.refusal.Verdict.the-variants.{Served, Refused}
+use Rattle.auction.specs.Cells.{withdrawnAt, weightAt}
+use Rattle.auction.specs.Live.{live}
+use Rattle.auction.specs.Sound.{Sound, SlackIn}
+use Rattle.auction.specs.Refusals.{firstOf}
+use Rattle.auction.specs.Calls.{Lists}
+use Rattle.auction.proofs.Tests.{no-decides, slack-decides}
+use Rattle.auction.proofs.SoundLaw.{sound-decides}
+use Rattle.auction.proofs.Verdicts.{Decided, next, decided-append, demand-1}
+use Rattle.certificate.specs.declared.Checked.{Checked}
+use Rattle.certificate.specs.Limits.{maxPrice}
+use Rattle.certificate.specs.Check.{Even, Clashes, PriceBad, Uncovered, CheckMet, clashChecks, priceTest, priceChecks, gainChecks, rowTest, bareChecks, checkChecks, checkBy, checkOf}
+use Rattle.certificate.specs.Demand1.{CheckDemand1}
+use Rattle.certificate.proofs.Fails.{Fails, Somewhere, not-fails, refail, fail-lt, fail-le, fail-eq, fail-not, fail-and, fail-or, fail-all}
+use Rattle.certificate.proofs.Places.{each-decided, clash-each, price-each, gain-each, bare-each}
+use Rattle.certificate.proofs.Tests.{lists-even}
+use Rattle.certificate.proofs.Outcomes.{by-totals}
+
+-- ---- A row of the table is what its test's failure says.
+
+module _ (b : Auction) where
+  -- An edge that is not live: its item is withdrawn, or there is none
+  dead : (i k : ℕ) → live b i k ≤ 0 → (withdrawnAt b k ≡ true) ⊎ (weightAt b i k ≡ 0)
+  dead i k = go (withdrawnAt b k) (weightAt b i k)
+    where
+      go : (t : Bool) (w : ℕ) → cond t 0 w ≤ 0 → (t ≡ true) ⊎ (w ≡ 0)
+      go true w l = inl refl
+      go false w l = inr (omega arith)
+
+  gone-dead : (i k : ℕ) → withdrawnAt b k ≡ true → live b i k ≤ 0
+  gone-dead i k e = rw e (omega arith)
+
+  edgeless-dead : (i k : ℕ) → weightAt b i k ≡ 0 → live b i k ≤ 0
+  edgeless-dead i k = go (withdrawnAt b k) (weightAt b i k)
+    where
+      go : (t : Bool) (w : ℕ) → w ≡ 0 → cond t 0 w ≤ 0
+      go true w e = omega arith
+      go false w e = omega arith
+
+  module _ (plan : ℕ → ℕ) (i : ℕ) where
+    -- Of a cell that names item k + 1
+    Named : ℕ → Type 0
+    Named k = (b .items ≤ k) ⊎ ((live b i k ≤ 0) ⊎ Somewhere i (λ h. plan h ≡ suc k))
+
+    clashes : (k : ℕ) → plan i ≡ suc k → Named k → Clashes b plan i
+    unfolding Named
+    clashes k e =
+        ⊎-elim (λ l. Clashes.unknown (omega arith))
+        (⊎-elim
+        (λ l. ⊎-elim (λ g. Clashes.gone e g) (λ z. Clashes.edgeless e z) (dead i k l))
+        (λ s. Clashes.named e (s .below) (s .holds)))
+
+    clashed : (k : ℕ) → plan i ≡ suc k → Clashes b plan i → Named k
+    unfolding Named
+    clashed k e (Clashes.unknown l) = inl (omega arith)
+    clashed k e (Clashes.gone {k = j} f g) = let s : j ≡ k = omega arith in inr (inl (gone-dead i k (rw s at g)))
+    clashed k e (Clashes.edgeless {k = j} f z) = let s : j ≡ k = omega arith in inr (inl (edgeless-dead i k (rw s at z)))
+    clashed k e (Clashes.named {h = h} {k = j} f l g) = inr (inr (record { at = h; below = l; holds = omega arith }))
+
+    unplaced : plan i ≡ 0 → Clashes b plan i → ⊥
+    unplaced e (Clashes.unknown l) = omega arith
+    unplaced e (Clashes.gone f g) = omega arith
+    unplaced e (Clashes.edgeless f z) = omega arith
+    unplaced e (Clashes.named f l g) = omega arith
+
+    clash-fails : (c : ℕ) → plan i ≡ c → Fails (cellTest (b .items) (live b) plan i c) (Clashes b plan i)
+    unfolding cellTest freshTest Named
+    clash-fails zero e = record { sound = λ h. absurd (clash true refl h); complete = λ x. absurd (unplaced e x) }
+    clash-fails (suc k) e =
+        refail
+        (fail-and (fail-lt k (b .items)) (fail-and (fail-lt 0 (live b i k)) (fail-all i _ _ (λ h. fail-not (eq-decides (plan h) (suc k))))))
+        (clashes k e)
+        (clashed k e)
+
+  price-fails : (prices : ℕ → ℕ) (k : ℕ) → Fails (priceTest b prices k) (PriceBad b prices k)
+  unfolding priceTest
+  price-fails prices k =
+      refail
+      (fail-and (fail-le (prices k) maxPrice) (fail-or (fail-not (true-decides (withdrawnAt b k))) (fail-eq (prices k) 0)))
+      (⊎-elim (λ l. PriceBad.high l) (λ h. PriceBad.gone (h .0) (omega (arith, h .1))))
+      back
+    where
+      back : PriceBad b prices k → (maxPrice < prices k) ⊎ ((withdrawnAt b k ≡ true) × (prices k ≡ 0 → ⊥))
+      back (PriceBad.high l) = inl l
+      back (PriceBad.gone e l) = inr (e, λ z. omega arith)
+
+  -- Where there is no edge nothing is asked
+  some-edge : (c v s : ℕ) → s < c * v → 0 < v
+  some-edge c zero s l = let e : c * 0 ≡ 0 = mul-zero c in absurd (omega arith)
+  some-edge c (suc v) s l = omega arith
+
+  bare-fails : (p q : ℕ) (prices gains : ℕ → ℕ) (i : ℕ) → Fails (rowTest b p q prices gains i) (Uncovered b p q prices gains i)
+  unfolding rowTest
+  bare-fails p q prices gains i =
+      refail
+      (fail-all (b .items) _ _ (λ k. fail-le ((q - p) * live b i k) (gains i + prices k)))
+      (λ s. record { item = s .at; below = s .below; edge = some-edge (q - p) (live b i (s .at)) _ (s .holds); short = s .holds })
+      (λ u. record { at = u .item; below = u .below; holds = u .short })
+
+-- ---- The checks' tests decide the rows.
+
+module _ (b : Auction) (l : Lists) (p q : ℕ) where
+  unsound : CheckMet b l p q Spoilt → Sound b → ⊥
+  unsound (CheckMet.spoilt f) = f
+
+  slack-met : CheckMet b l p q Slack → SlackIn 0 p q → ⊥
+  slack-met (CheckMet.slack f) = f
+
+  uneven-met : CheckMet b l p q Uneven → Even b l → ⊥
+  uneven-met (CheckMet.uneven f) = f
+
+  clash-met : (i : ℕ) → CheckMet b l p q (Clash (suc i)) → Clashes b (cells (l .plan)) i
+  clash-met i (CheckMet.clash x) = x
+
+  bare-met : (i : ℕ) → CheckMet b l p q (Bare (suc i)) → Uncovered b p q (cells (l .prices)) (cells (l .gains)) i
+  bare-met i (CheckMet.bare x) = x
+
+  -- A refusal 11 is an item's or a bidder's, by its place
+  Priced : ℕ → Type 0
+  Priced n =
+      ((k : ℕ) × (k < b .items) × (n ≡ suc k) × PriceBad b (cells (l .prices)) k) ⊎
+      ((i : ℕ) × (n ≡ b .items + suc i) × (maxPrice < cells (l .gains) i))
+
+  priced : (n : ℕ) → CheckMet b l p q (Price n) → Priced n
+  unfolding Priced
+  priced n (CheckMet.price {k = k} h x) = inl (k, h, refl, x)
+  priced n (CheckMet.gain i x) = inr (i, refl, x)
+
+  price-met : (k : ℕ) → k < b .items → CheckMet b l p q (Price (suc k)) → PriceBad b (cells (l .prices)) k
+  unfolding Priced
+  price-met k h m =
+      ⊎-elim
+      (λ (j, g, e, x). rw (suc-inj e) x)
+      (λ (i, e, x). absurd (omega arith))
+      (priced (suc k) m)
+
+  gain-met : (i : ℕ) → CheckMet b l p q (Price (b .items + suc i)) → maxPrice < cells (l .gains) i
+  unfolding Priced
+  gain-met i m =
+      ⊎-elim
+      (λ (k, g, e, x). absurd (omega arith))
+      (λ (j, e, x). let s : i ≡ j = omega arith in rw s x)
+      (priced (b .items + suc i) m)
+
+  clash-decided : Decided (CheckMet b l p q) (clashChecks b (cells (l .plan)) 0 (b .arrived))
+  clash-decided =
+      rw clash-each (each-decided _ _ 0 (b .arrived)
+      (λ i h. reword (not-fails (clash-fails b (cells (l .plan)) i _ refl)) (λ x. CheckMet.clash x) (clash-met i)))
+
+  price-decided : Decided (CheckMet b l p q) (priceChecks b (cells (l .prices)) 0 (b .items))
+  price-decided =
+      rw price-each (each-decided _ _ 0 (b .items)
+      (λ k h. reword (not-fails (price-fails b (cells (l .prices)) k)) (λ x. CheckMet.price (omega arith) x) (price-met k (omega arith))))
+
+  gain-decided : Decided (CheckMet b l p q) (gainChecks (b .items) (cells (l .gains)) 0 (b .arrived))
+  gain-decided =
+      rw gain-each (each-decided _ _ 0 (b .arrived)
+      (λ i h. reword (not-fails (fail-le (cells (l .gains) i) maxPrice)) (λ x. CheckMet.gain i x) (gain-met i)))
+
+  bare-decided : Decided (CheckMet b l p q) (bareChecks b p q (cells (l .prices)) (cells (l .gains)) 0 (b .arrived))
+  bare-decided =
+      rw bare-each (each-decided _ _ 0 (b .arrived)
+      (λ i h. reword (not-fails (bare-fails b p q (cells (l .prices)) (cells (l .gains)) i)) (λ x. CheckMet.bare x) (bare-met i)))
+
+  check-decided : Decided (CheckMet b l p q) (checkChecks b l p q)
+  unfolding checkChecks
+  check-decided =
+      next (reword (no-decides (sound-decides b)) (λ f. CheckMet.spoilt f) unsound)
+      (next (reword (no-decides (slack-decides 0 p q)) (λ f. CheckMet.slack f) slack-met)
+      (next (reword (no-decides (lists-even b l)) (λ f. CheckMet.uneven f) uneven-met)
+      (decided-append clash-decided (decided-append price-decided (decided-append gain-decided bare-decided)))))
+
+pub check-demand-1 : CheckDemand1
+unfolding checkOf checkBy
+check-demand-1 b l p q =
+    demand-1 (check-decided b l p q)
+    (λ r. (λ e. rw e, λ e. by-refused r (firstOf (checkChecks b l p q)) e))
+    (λ e. rw e, λ e. by-totals b l (firstOf (checkChecks b l p q)) _ _ e)
+  where
+    by-refused : (r : Refusal) (v : Verdict) → checkBy b l v ≡ Checked.Refused r → v ≡ Refused r
+    by-refused r Served e = let z : _≡_ {A = ℕ} 0 1 = cc in absurd (omega arith)
+    by-refused r (Refused s) e = let h : s ≡ r = cc in ap Refused h

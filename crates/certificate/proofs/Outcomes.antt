@@ -1,0 +1,69 @@
+-- The check's outcome, as the code comes to it.
+use mathlib.Core.Path.{_≡_, refl, sym, ap, ap₂, _∙_}
+use mathlib.Core.Bool.{true, false}
+use mathlib.Core.List.{List, _++_}
+use Prim.Native.Nat.{ℕ}
+use native.Mathlib.Omega.{arith}
+use lib.ListN.{length}
+use Rattle.duality.specs.Matching.{weightOf}
+use Rattle.duality.specs.Cover.{total}
+use Rattle.duality.specs.Lists.{cells}
+use Rattle.auction.specs.declared.board.Auction.{Auction}
+use Rattle.auction.specs.declared.board.Pence.{Pence}
+use Rattle.auction.specs.declared.board.Scaled.{Scaled}
+use Rattle.auction.specs.declared.refusal.Refusal.{Refusal}
+use Rattle.auction.specs.declared.refusal.Refusal.the-variants.{Slack, Uneven, Spoilt}
+use Rattle.auction.specs.declared.refusal.Verdict.{Verdict}
+use Rattle.auction.specs.declared.refusal.Verdict.the-variants.{Served, Refused}
+use Rattle.auction.specs.Cells.{pence, scaled}
+use Rattle.auction.specs.Live.{live}
+use Rattle.auction.specs.SoundTest.{soundTest}
+use Rattle.auction.specs.Refusals.{Check, firstOf}
+use Rattle.auction.specs.Calls.{slackTest, Lists}
+use Rattle.auction.proofs.Verdicts.{first-on, first-stops}
+use Rattle.certificate.specs.declared.Checked.{Checked}
+use Rattle.certificate.specs.Check.{evenTest, checkChecks, checkBy, checkOf}
+use Rattle.certificate.specs.Lent.{listChecks}
+
+-- A verdict on the first of two lists of checks stands, or leaves it to the second
+pub stops : (xs ys : List Check) (v : Verdict) (r : Refusal) → v ≡ firstOf xs → v ≡ Refused r → v ≡ firstOf (xs ++ ys)
+stops xs ys v r e s = s ∙ sym (first-stops xs ys r (sym e ∙ s))
+
+pub passes : (xs ys : List Check) (v w : Verdict) → v ≡ firstOf xs → v ≡ Served → w ≡ firstOf ys → w ≡ firstOf (xs ++ ys)
+passes xs ys v w e s h = h ∙ sym (first-on xs ys (sym e ∙ s))
+
+module _ (b : Auction) (l : Lists) where
+  -- Totals come of no refusal
+  pub by-totals : (v : Verdict) (weight : Pence) (sum : Scaled) → checkBy b l v ≡ Checked.Totals weight sum → v ≡ Served
+  unfolding checkBy
+  by-totals Served weight sum e = refl
+  by-totals (Refused r) weight sum e = let z : _≡_ {A = ℕ} 0 1 = cc in absurd (omega arith)
+
+  module _ (p q : ℕ) where
+    pub check-spoilt : soundTest b ≡ false → Checked.Refused Spoilt ≡ checkOf b l p q
+    unfolding checkOf checkBy checkChecks firstOf
+    check-spoilt e = rw e
+
+    module _ (s : soundTest b ≡ true) where
+      pub check-slack : slackTest 0 p q ≡ false → Checked.Refused Slack ≡ checkOf b l p q
+      unfolding checkOf checkBy checkChecks firstOf
+      check-slack e = rw (s, e)
+
+      module _ (t : slackTest 0 p q ≡ true) where
+        pub check-uneven : evenTest (b .arrived) (b .items) (length (l .plan)) (length (l .prices)) (length (l .gains)) ≡ false → Checked.Refused Uneven ≡ checkOf b l p q
+        unfolding checkOf checkBy checkChecks firstOf
+        check-uneven e = rw (s, t, e)
+
+        pub check-lists : evenTest (b .arrived) (b .items) (length (l .plan)) (length (l .prices)) (length (l .gains)) ≡ true →
+            checkBy b l (firstOf (listChecks b l p q)) ≡ checkOf b l p q
+        unfolding checkOf checkChecks listChecks firstOf
+        check-lists e = rw (s, t, e)
+
+  pub lists-refused : (v : Verdict) (r : Refusal) → v ≡ Refused r → Checked.Refused r ≡ checkBy b l v
+  unfolding checkBy
+  lists-refused v r e = rw e
+
+  pub lists-served : (v : Verdict) (weight : Pence) (sum : Scaled) → v ≡ Served → weight .0 ≡ weightOf (b .arrived) (live b) (cells (l .plan)) →
+      sum .0 ≡ total (b .arrived) (b .items) (cells (l .prices)) (cells (l .gains)) → Checked.Totals weight sum ≡ checkBy b l v
+  unfolding checkBy
+  lists-served v weight sum e f g = rw e (ap₂ Checked.Totals (ap pence f) (ap scaled g))

@@ -1,0 +1,42 @@
+-- What the check accepts: it answers totals exactly when the lists are a matching and a cover of a sound board's live edges.
+use mathlib.Core.Path.{_≡_}
+use mathlib.Core.Bool.{true}
+use Prim.Native.Nat.{ℕ, _-_, _≤_, _<_}
+use Rattle.duality.specs.Matching.{IsMatching, weightOf}
+use Rattle.duality.specs.Cover.{Covers, total}
+use Rattle.duality.specs.Lists.{cells}
+use Rattle.auction.specs.declared.board.Auction.{Auction}
+use Rattle.auction.specs.declared.board.Pence.{Pence}
+use Rattle.auction.specs.declared.board.Scaled.{Scaled}
+use Rattle.auction.specs.Cells.{pence, scaled, withdrawnAt}
+use Rattle.auction.specs.Live.{live}
+use Rattle.auction.specs.Sound.{Sound, SlackIn}
+use Rattle.auction.specs.Calls.{Lists}
+use Rattle.certificate.specs.declared.Checked.{Checked}
+use Rattle.certificate.specs.Limits.{maxPrice}
+use Rattle.certificate.specs.Check.{Even, checkOf}
+
+-- "The check takes a sound board, a plan, a price and a gain list of exact length, and a slack, here with p from 0"
+pub record Accepted (b : Auction) (l : Lists) (p q : ℕ) : Type 0 where
+  pub sound : Sound b
+  pub slack : SlackIn 0 p q
+  pub even : Even b l
+  -- "A plan gives each batch one kettle or none, only along entries, and no kettle to two batches"
+  pub matches : IsMatching (b .arrived) (b .items) (live b) (cells (l .plan))
+  -- "above 1,000,000,000, or a withdrawn kettle's not 0" is met nowhere
+  pub prices : (k : ℕ) → k < b .items → cells (l .prices) k ≤ maxPrice
+  pub withdrawn : (k : ℕ) → k < b .items → withdrawnAt b k ≡ true → cells (l .prices) k ≡ 0
+  pub gains : (i : ℕ) → i < b .arrived → cells (l .gains) i ≤ maxPrice
+  -- "Covering means gain plus price at least (q - p) × w on every live entry"
+  pub covers : Covers (b .arrived) (b .items) (live b) (q - p) (cells (l .prices)) (cells (l .gains))
+
+abbrev pub TotalsAccepted : Type 0
+TotalsAccepted = (b : Auction) (l : Lists) (p q : ℕ) (weight : Pence) (sum : Scaled) → checkOf b l p q ≡ Checked.Totals weight sum → Accepted b l p q
+
+-- "It answers the plan's worth and the sum of prices and gains"
+abbrev pub AcceptedTotals : Type 0
+AcceptedTotals =
+    (b : Auction) (l : Lists) (p q : ℕ) →
+    Accepted b l p q →
+    checkOf b l p q ≡
+    Checked.Totals (pence (weightOf (b .arrived) (live b) (cells (l .plan)))) (scaled (total (b .arrived) (b .items) (cells (l .prices)) (cells (l .gains))))

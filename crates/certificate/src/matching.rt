@@ -1,0 +1,114 @@
+// A matching that was made elsewhere (document 01: a plan), against the live edges.
+use crate::live::live_weight;
+use auction::board::Auction;
+use auction::board::Pence;
+use auction::refusal::Refusal;
+use auction::refusal::Verdict;
+ghost use mathlib.Core.Path.{_≡_};
+ghost use mathlib.Core.Bool.{not};
+ghost use Prim.Native.Nat.{ℕ, _≤_, _<_};
+ghost use lib.ListN.{length};
+ghost use lib.Dec.{eqb};
+ghost use Rattle.duality.specs.Decide.{allBelow};
+ghost use Rattle.duality.specs.Lists.{cells};
+ghost use Rattle.duality.specs.Matching.{atCell, weightOf};
+ghost use Rattle.duality.specs.Tests.{cellTest};
+ghost use Rattle.auction.specs.declared.board.Auction.{Auction as Board};
+ghost use Rattle.auction.specs.Limits.{maxItems, maxBidders};
+ghost use Rattle.auction.specs.Refusals.{firstOf};
+ghost use Rattle.certificate.specs.Check.{clashChecks};
+ghost use Rattle.certificate.specs.Lent.{lent, liveOf};
+
+// Whether no bidder before one names an item.
+fn is_fresh(plan: &[u64], bidder: usize, item: u64) -> bool
+    requires { ⌜ bidder ≤ length (now plan) ⌝ }
+    ensures { λ r. ⌜ r ≡ allBelow bidder (λ h. not (eqb (cells (now (plan .entry)) h) item)) ⌝ }
+{
+    let mut h: usize = 0;
+    while h < bidder {
+        if plan[h] == item {
+            return false;
+        }
+        h += 1;
+    }
+    true
+}
+
+// A bidder's cell: 0, or an item with a live edge to it that no earlier bidder names.
+fn cell_holds<'a>(
+    weights: &'a [u32; Auction::MAX_CELLS],
+    withdrawn: &'a [bool; Auction::MAX_ITEMS],
+    items: u64,
+    plan: &[u64],
+    bidder: usize,
+) -> bool
+    requires { ⌜ (bidder < length (now plan)) × (bidder < maxBidders) × (items ≤ maxItems) ⌝ }
+    ensures { λ r. ⌜ r ≡ cellTest items (liveOf (now (withdrawn .entry)) (now (weights .entry))) (cells (now (plan .entry))) bidder (cells (now (plan .entry)) bidder) ⌝ }
+{
+    let item = plan[bidder];
+    if item == 0 {
+        return true;
+    }
+    if item > items {
+        return false;
+    }
+    let weight = live_weight(weights, withdrawn, bidder, (item - 1) as usize);
+    if weight.0 == 0 {
+        return false;
+    }
+    is_fresh(plan, bidder, item)
+}
+
+// Refusal 10: the first bidder whose cell does not hold.
+pub(crate) fn plan_verdict<'a>(
+    weights: &'a [u32; Auction::MAX_CELLS],
+    withdrawn: &'a [bool; Auction::MAX_ITEMS],
+    items: u64,
+    plan: &[u64],
+) -> Verdict
+    requires { ⌜ (length (now plan) ≤ maxBidders) × (items ≤ maxItems) ⌝ }
+    ensures { λ r. ⌜ ((b : Board) → r ≡ firstOf (clashChecks (lent b (b .arrived) items (now (withdrawn .entry)) (now (weights .entry))) (cells (now (plan .entry))) 0 (length (now (plan .entry))))) ⌝ }
+{
+    let mut i: usize = 0;
+    while i < plan.len() {
+        if !cell_holds(weights, withdrawn, items, plan, i) {
+            return Verdict::Refused(Refusal::Clash(i as u64 + 1));
+        }
+        i += 1;
+    }
+    Verdict::Served
+}
+
+// The weight of the edge that a bidder's cell uses, 0 where the cell is 0.
+fn cell_weight<'a>(
+    weights: &'a [u32; Auction::MAX_CELLS],
+    withdrawn: &'a [bool; Auction::MAX_ITEMS],
+    bidder: usize,
+    cell: u64,
+) -> Pence
+    requires { ⌜ (bidder < maxBidders) × (cell ≤ maxItems) ⌝ }
+    ensures { λ r. ⌜ (r .0 ≡ atCell (liveOf (now (withdrawn .entry)) (now (weights .entry)) bidder) cell) × (r .0 < 4294967296) ⌝ }
+{
+    if cell == 0 {
+        return Pence(0);
+    }
+    live_weight(weights, withdrawn, bidder, (cell - 1) as usize)
+}
+
+// The weight of a matching: all edges used, added.
+pub(crate) fn plan_weight<'a>(
+    weights: &'a [u32; Auction::MAX_CELLS],
+    withdrawn: &'a [bool; Auction::MAX_ITEMS],
+    plan: &[u64],
+) -> Pence
+    requires { ⌜ (length (now plan) ≤ maxBidders) × ((i : ℕ) → i < length (now plan) → cells (now plan) i ≤ maxItems) ⌝ }
+    ensures { λ r. ⌜ r .0 ≡ weightOf (length (now (plan .entry))) (liveOf (now (withdrawn .entry)) (now (weights .entry))) (cells (now (plan .entry))) ⌝ }
+{
+    let mut sum: u64 = 0;
+    let mut i: usize = 0;
+    while i < plan.len() {
+        sum += cell_weight(weights, withdrawn, i, plan[i]).0;
+        i += 1;
+    }
+    Pence(sum)
+}

@@ -1,0 +1,5 @@
+-- The proof of the page, from the crates below: prices that histories reach, what the check accepts, and the page itself.
+pub mod Modest
+pub mod Bounds
+pub mod Checks
+pub mod Guarantees

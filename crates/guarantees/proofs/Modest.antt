@@ -1,0 +1,127 @@
+-- On every board that a history reaches, no price and no gain is above 1,000,000,000: a bid leaves both at most q times a weight.
+use mathlib.Core.Path.{_≡_, refl, sym, ap, _∙_}
+use mathlib.Core.Bool.{Bool, true, false, cond}
+use mathlib.Core.List.{List, [], _∷_}
+use mathlib.Core.Logic.{by-cases}
+use Prim.Native.Nat.{ℕ, zero, suc, _+_, _*_, _≤_, _<_}
+use native.Mathlib.Decide.{decLt}
+use native.Mathlib.Nat.{mul-le-mul, le-trans}
+use native.Mathlib.Omega.{arith}
+use lib.ListN.{length, getD, set, take, drop, replicate, length-take, List·getD-eq-default}
+use Rattle.duality.specs.Steps.{utility, Open}
+use Rattle.auction.specs.declared.board.Auction.{Auction}
+use Rattle.auction.specs.declared.board.Scaled.{Scaled}
+use Rattle.auction.specs.Limits.{maxItems, maxBidders, maxWeight, maxQ}
+use Rattle.auction.specs.Cells.{scaled, scaledAt, priceAt, gainAt, rowAt, rowIn}
+use Rattle.auction.specs.Live.{live}
+use Rattle.auction.specs.Sound.{Sound}
+use Rattle.auction.specs.Rule.{Chosen, placedAt, bidden, displaced, Chain, stays, takes, displaces}
+use Rattle.auction.specs.Calls.{opened, entered, released}
+use Rattle.auction.specs.Demand2.{Leaves, free, held}
+use Rattle.auction.specs.Histories.{Reached, opens, arrives, withdraws}
+use Rattle.auction.proofs.Filed.{row-cell}
+use Rattle.auction.proofs.LiveLaws.{weighed-edges}
+use Rattle.auction.proofs.Demand2.{rowOf, arrive-all, withdraw-all}
+use Rattle.certificate.specs.Limits.{maxPrice}
+
+pub record Modest (b : Auction) : Type 0 where
+  pub prices : (k : ℕ) → priceAt b k ≤ maxPrice
+  pub gains : (i : ℕ) → gainAt b i ≤ maxPrice
+
+-- The limits that a bid goes by
+pub record Light (b : Auction) : Type 0 where
+  pub q : b .slack .q ≤ maxQ
+  pub weights : (i k : ℕ) → live b i k ≤ maxWeight
+
+cond-below : (f : Bool) (x y : ℕ) → x ≤ y → cond f 0 x ≤ y
+cond-below true x y l = omega arith
+cond-below false x y l = l
+
+pub live-light : (b : Auction) → Sound b → (i k : ℕ) → live b i k ≤ maxWeight
+live-light b s i k = cond-below (getD (b .withdrawn) k false) _ _ (by-cases (decLt k maxItems) near far)
+  where
+    near : k < maxItems → getD (rowAt b i) k 0 ≤ maxWeight
+    near lk =
+        by-cases (decLt i maxBidders)
+        (λ li. by-cases (decLt i (b .arrived))
+        (λ a. by-cases (decLt k (b .items))
+        (λ u. weighed-edges (rowAt b i) (b .items) (s .weights i a) k u)
+        (λ f. omega (arith, s .unused .weight i k a (omega arith) lk)))
+        (λ f. omega (arith, s .unused .row i k (omega arith) li lk)))
+        (λ f. omega (arith, row-cell (b .weights) i k lk, List·getD-eq-default (b .weights) 0 {n = i * maxItems + k} (omega (arith, s .formed .rows))))
+
+    far : (k < maxItems → ⊥) → getD (rowAt b i) k 0 ≤ maxWeight
+    far f = omega (arith, List·getD-eq-default (rowAt b i) 0 {n = k} (omega (arith, length-take maxItems (drop (i * maxItems) (b .weights)))))
+
+pub sound-light : {b : Auction} → Sound b → Light b
+sound-light {b} s = record { q = s .slack .high; weights = live-light b s }
+
+-- ---- A chain of bids
+
+set-below : (ys : List Scaled) (k v : ℕ) → ((j : ℕ) → scaledAt ys j ≤ maxPrice) → v ≤ maxPrice → (j : ℕ) → scaledAt (set ys k (scaled v)) j ≤ maxPrice
+set-below [] k v h l j = h j
+set-below (y ∷ ys) zero v h l zero = l
+set-below (y ∷ ys) zero v h l (suc j) = h (suc j)
+set-below (y ∷ ys) (suc k) v h l zero = h zero
+set-below (y ∷ ys) (suc k) v h l (suc j) = set-below ys k v (λ j. h (suc j)) l j
+
+below : (q w : ℕ) → q ≤ maxQ → w ≤ maxWeight → q * w ≤ maxPrice
+below q w lq lw = let l : q * w ≤ maxQ * maxWeight = mul-le-mul lq lw in omega arith
+
+bid-modest : {b : Auction} (i k : ℕ) → Light b → Modest b → Open (b .slack .p) (b .slack .q) (live b i k) (priceAt b k) → Modest (bidden b i k)
+unfolding placedAt
+bid-modest {b} i k light m o =
+    let l = below (b .slack .q) (live b i k) (light .q) (light .weights i k) in
+    record {
+      prices = set-below (b .price) k _ (m .prices) (omega (arith, o, l));
+      gains = set-below (b .gain) i _ (m .gains) (omega (arith, l));
+    }
+
+displaced-modest : {b : Auction} (x : ℕ) → Modest b → Modest (displaced b x)
+unfolding displaced
+displaced-modest {b} x m = record { prices = m .prices; gains = set-below (b .gain) x 0 (m .gains) (omega arith) }
+
+bid-light : {b : Auction} (i k x : ℕ) → Light b → Light (displaced (bidden b i k) x)
+unfolding placedAt displaced
+bid-light i k x l = record { q = l .q; weights = l .weights }
+
+chain-modest : {b c : Auction} {i n : ℕ} → Chain b i c n → Light b → Modest b → Modest c
+chain-modest (stays none) l m = m
+chain-modest (takes {i = i} {k = k} ch f) l m = bid-modest i k l m (ch .«open»)
+chain-modest (displaces {i = i} {k = k} {x = x} ch h r) l m = chain-modest r (bid-light i k x l) (displaced-modest x (bid-modest i k l m (ch .«open»)))
+
+-- The edges and the slack stay as they were, so what is known of the board after is known of the board before
+chain-light : {b c : Auction} {i n : ℕ} → Chain b i c n → Light c → Light b
+unfolding placedAt displaced
+chain-light (stays none) l = l
+chain-light (takes ch f) l = record { q = l .q; weights = l .weights }
+chain-light (displaces ch h r) l = let m = chain-light r l in record { q = m .q; weights = m .weights }
+
+leaves-modest : {b c : Auction} {k n : ℕ} → Leaves b k c n → Sound c → Modest b → Modest c
+unfolding released displaced
+leaves-modest {b} {k = k} (free e) s m = record { prices = set-below (b .price) k 0 (m .prices) (omega arith); gains = m .gains }
+leaves-modest {b} {k = k} (held {x = x} e r) s m =
+    chain-modest r (chain-light r (sound-light s))
+    (record { prices = set-below (b .price) k 0 (m .prices) (omega arith); gains = set-below (b .gain) x 0 (m .gains) (omega arith) })
+
+entered-modest : {b : Auction} (row : List ℕ) → Modest b → Modest (entered b row)
+unfolding entered
+entered-modest row m = record { prices = m .prices; gains = m .gains }
+
+none-at : (n k : ℕ) → scaledAt (replicate n (scaled 0)) k ≡ 0
+none-at zero k = refl
+none-at (suc n) zero = refl
+none-at (suc n) (suc k) = none-at n k
+
+pub reached-modest : {b : Auction} {e n : ℕ} → Reached b e n → Modest b
+unfolding opened
+reached-modest (opens items p q h) = record { prices = λ k. omega (arith, none-at maxItems k); gains = λ i. omega (arith, none-at maxBidders i) }
+reached-modest (arrives {b = b} edges r t h) =
+    let m = reached-modest t in
+    arrive-all b edges (λ r. Modest (r .auction))
+    (λ j. let c = j .after .settles .chain in chain-modest c (chain-light c (sound-light (j .after .sound))) (entered-modest (rowOf edges) m))
+    (λ q. m)
+    r h
+reached-modest (withdraws {b = b} item r t h) =
+    let m = reached-modest t in
+    withdraw-all b item (λ r. Modest (r .auction)) (λ j. leaves-modest (j .leaves) (j .after) m) (λ q. m) r h

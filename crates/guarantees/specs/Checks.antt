@@ -1,0 +1,45 @@
+-- What the check says of the lists that the exact level and the read-out leave, and of anyone's.
+use mathlib.Core.Path.{_≡_}
+use mathlib.Core.Logic.{_↔_}
+use Prim.Native.Nat.{ℕ, _+_, _*_}
+use lib.ListN.{take}
+use Rattle.duality.specs.Matching.{weightOf}
+use Rattle.duality.specs.EqualExactlyWhenBest.{BestLists}
+use Rattle.auction.specs.declared.board.Auction.{Auction}
+use Rattle.auction.specs.declared.board.Pence.{Pence}
+use Rattle.auction.specs.declared.board.Scaled.{Scaled}
+use Rattle.auction.specs.Cells.{pence, scaled}
+use Rattle.auction.specs.Live.{live, matchingOf}
+use Rattle.auction.specs.Sound.{Sound}
+use Rattle.auction.specs.Calls.{Lists, lists, Roomy, readOutOf}
+use Rattle.auction.specs.Histories.{Reached}
+use Rattle.hungarian.specs.declared.exact.Greatest.{Greatest}
+use Rattle.hungarian.specs.Exact.{greatestOn}
+use Rattle.hungarian.specs.Demand3.{ExactOutcome}
+use Rattle.certificate.specs.declared.Checked.{Checked}
+use Rattle.certificate.specs.Check.{checkOf}
+
+-- Three lists cut to length: a cell for each bidder, item and bidder
+abbrev pub cut : Auction → Lists → Lists
+cut b l = lists (take (b .arrived) (l .plan)) (take (b .items) (l .prices)) (take (b .arrived) (l .gains))
+
+-- "With 0/1 that is the whole-penny case": what the exact level leaves is accepted, and both totals are its answer
+abbrev pub ExactAccepted : Type 0
+ExactAccepted =
+    (b : Auction) (before after : Lists) (answer : Greatest) → Sound b → Roomy b before → ExactOutcome b before answer after →
+    checkOf b (cut b after) 0 1 ≡ Checked.Totals (pence (greatestOn b)) (scaled (greatestOn b))
+
+-- The totals that the check answers at 0/1 are equal exactly when the matching is of greatest weight and the cover of least sum: "best" may then be
+-- printed
+abbrev pub EqualTotalsBest : Type 0
+EqualTotalsBest =
+    (b : Auction) (l : Lists) (weight : Pence) (sum : Scaled) → checkOf b l 0 1 ≡ Checked.Totals weight sum →
+    (weight .0 ≡ sum .0) ↔ BestLists (b .arrived) (b .items) (live b) (l .plan) (l .prices) (l .gains)
+
+-- On a board that a history reaches, the lists read out are accepted at its own slack, and the totals are as 1 to q + p
+abbrev pub ReadOutAccepted : Type 0
+ReadOutAccepted =
+    (b : Auction) (e n : ℕ) (l : Lists) → Reached b e n → Roomy b l →
+    checkOf b (cut b (readOutOf b l .lists)) (b .slack .p) (b .slack .q) ≡
+    Checked.Totals (pence (weightOf (b .arrived) (live b) (matchingOf b)))
+    (scaled ((b .slack .q + b .slack .p) * weightOf (b .arrived) (live b) (matchingOf b)))

@@ -1,0 +1,117 @@
+-- What is printed ends, is no longer than a constant, and its figures hold.
+use mathlib.Core.Path.{_≡_, refl, sym, ap, subst}
+use mathlib.Core.Bool.{Bool, true, false}
+use mathlib.Core.List.{[], _∷_}
+use Prim.Native.Nat.{ℕ, zero, suc, _+_, _-_, _*_, _^_, _≤_, _<_}
+use native.Mathlib.Nat.{le-trans}
+use native.Mathlib.Omega.{arith}
+use lib.ListN.{length, length-append}
+use Rattle.text.specs.Limits.{maxLine}
+use Rattle.text.specs.Print.{lineOf}
+use Rattle.text.proofs.Decimals.{most}
+use Rattle.duality.proofs.Sums.{sumTo-term}
+use Rattle.duality.proofs.GreatestWeight.{greatest-weight}
+use Rattle.auction.specs.declared.board.Auction.{Auction}
+use Rattle.auction.specs.Limits.{maxItems, maxBidders, maxWeight}
+use Rattle.auction.specs.Cells.{priceAt, gainAt, withdrawnAt}
+use Rattle.auction.specs.Live.{live, matchingOf}
+use Rattle.auction.specs.Sound.{Sound}
+use Rattle.auction.proofs.Demand2.{sound-demand-2}
+use Rattle.auction.proofs.Histories.{history-demand-2}
+use Rattle.auction.proofs.ReplayLines.{bids-fit}
+use Rattle.auction.proofs.ReplayLaws.{replay-ends, replay-reached}
+use Rattle.hungarian.specs.Exact.{greatestOn}
+use Rattle.history.specs.Limits.{maxOutput}
+use Rattle.history.specs.Output.{bidderLines, itemLine, itemLines, worthOf, sumOf, outputOf}
+use Rattle.history.specs.Plan.{planFrom, planOf}
+use Rattle.history.specs.Laws.{PlanEnds, OutputFits, AcceptedIsWritten, PrintedFigures}
+use Rattle.history.proofs.Boards.{weight-most, weight-any, sum-is, sum-most-is}
+use Rattle.history.proofs.Plans.{fit-written, plan-finished}
+
+pub plan-ends : PlanEnds
+unfolding planOf planFrom
+plan-ends s out = let r = replay-ends s in (_, ap (planFrom out) (r .1))
+
+-- ---- Lengths
+
+-- a number that 64 bits hold
+abbrev Wide : ℕ → Type 0
+Wide n = n < 2 ^ 64
+
+one-field : (c x : ℕ) → Wide x → length (lineOf c (x ∷ [])) ≤ maxLine
+one-field c x h = rw (length-append, length-append) (omega (arith, most x h))
+
+two-fields : (c x y : ℕ) → Wide x → Wide y → length (lineOf c (x ∷ y ∷ [])) ≤ maxLine
+two-fields c x y h g = rw (length-append, length-append, length-append) (omega (arith, most x h, most y g))
+
+three-fields : (c x y z : ℕ) → Wide x → Wide y → Wide z → length (lineOf c (x ∷ y ∷ z ∷ [])) ≤ maxLine
+three-fields c x y z h g f = rw (length-append, length-append, length-append, length-append) (omega (arith, most x h, most y g, most z f))
+
+bidders-length : (n : ℕ) (f g : ℕ → ℕ) → n ≤ maxBidders → ((i : ℕ) → i < n → Wide (f i) × Wide (g i)) → length (bidderLines f g n) ≤ maxLine * n
+unfolding bidderLines
+bidders-length zero f g l h = omega arith
+bidders-length (suc n) f g l h =
+    let w = h n (omega arith) in
+    rw length-append (omega (arith, bidders-length n f g (omega arith) (λ i u. h i (omega arith)), three-fields 80 (n + 1) (f n) (g n) (omega arith) (w .0) (w .1)))
+
+item-length : (w : Bool) (k y : ℕ) → Wide k → Wide y → length (itemLine w k y) ≤ maxLine
+item-length true k y h g = omega arith
+item-length false k y h g = two-fields 89 k y h g
+
+items-length : (n : ℕ) (w : ℕ → Bool) (f : ℕ → ℕ) → n ≤ maxItems → ((k : ℕ) → k < n → Wide (f k)) → length (itemLines w f n) ≤ maxLine * n
+unfolding itemLines
+items-length zero w f l h = omega arith
+items-length (suc n) w f l h =
+    rw length-append (omega (arith, items-length n w f (omega arith) (λ i u. h i (omega arith)), item-length (w n) (n + 1) (f n) (omega arith) (h n (omega arith))))
+
+matched-wide : (b : Auction) → Sound b → (i : ℕ) → i < b .arrived → Wide (matchingOf b i)
+matched-wide b s i l = go (matchingOf b i) refl
+  where
+    go : (c : ℕ) → matchingOf b i ≡ c → Wide c
+    go zero e = omega arith
+    go (suc k) e = omega (arith, s .matches .along i k l e .0, s .items .1)
+
+greatest-most : (b : Auction) → Sound b → greatestOn b ≤ maxBidders * maxWeight
+greatest-most b s = let g = greatest-weight (b .arrived) (b .items) (live b) .attained in subst (λ (x : ℕ). x ≤ maxBidders * maxWeight) (g .2) (weight-any b s (g .0) (g .1))
+
+output-length : (b : Auction) (bids : ℕ) → Sound b → Wide bids → length (outputOf b bids) ≤ maxOutput
+unfolding outputOf
+output-length b bids s w =
+    let m = sum-most-is b s in
+    let prices : (k : ℕ) → k < b .items → Wide (priceAt b k) = λ k l. omega (arith, sumTo-term (b .items) k (priceAt b) l) in
+    let gains : (i : ℕ) → i < b .arrived → Wide (gainAt b i) = λ i l. omega (arith, sumTo-term (b .arrived) i (gainAt b) l) in
+    rw (length-append, length-append, length-append) (
+    omega (
+      arith,
+      bidders-length (b .arrived) (matchingOf b) (gainAt b) (s .arrived) (λ i l. (matched-wide b s i l, gains i l)),
+      items-length (b .items) (withdrawnAt b) (priceAt b) (s .items .1) prices,
+      three-fields 84 (worthOf b) (sumOf b) bids (omega (arith, weight-most b s)) (omega arith) w,
+      one-field 69 (greatestOn b) (omega (arith, greatest-most b s)),
+      s .arrived,
+      s .items .1,
+    ))
+
+pub output-fits : OutputFits
+output-fits s r (e, f) =
+    let h = replay-reached s r e f in
+    output-length (r .auction) (r .bids) (history-demand-2 (r .auction) (h .0) (r .bids) (h .1) .sound) (omega (arith, bids-fit h))
+
+pub accepted-is-written : AcceptedIsWritten
+accepted-is-written s out r (e, f) l =
+    sym (plan-finished s out r (sym e) _ _ f (sym (fit-written (outputOf (r .auction) (r .bids)) out (le-trans (output-fits s r (e, f)) l))))
+
+-- ---- Figures
+
+pub printed-figures : PrintedFigures
+printed-figures s r (e, f) =
+    let h = replay-reached s r e f in
+    let b = r .auction in
+    let d = history-demand-2 b (h .0) (r .bids) (h .1) in
+    let g = greatest-weight (b .arrived) (b .items) (live b) .attained in
+    record {
+      sum = sum-is b (d .sound);
+      share = subst (λ (x : ℕ). (b .slack .q - b .slack .p) * x ≤ (b .slack .q + b .slack .p) * worthOf b) (g .2) (sound-demand-2 b (d .sound) .share (g .0) (g .1));
+      edges = h .0;
+      reached = h .1;
+      few = d .bids;
+    }

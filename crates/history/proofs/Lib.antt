@@ -1,0 +1,6 @@
+-- The laws that the functions' proofs cite, and the proofs of the statements in specs/.
+pub mod Outputs
+pub mod Boards
+pub mod Plans
+pub mod Laws
+pub mod Sheets

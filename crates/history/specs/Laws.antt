@@ -1,0 +1,49 @@
+-- Statements about what is printed: it always ends, it is no longer than a constant, and its figures hold.
+use mathlib.Core.Path.{_≡_}
+use mathlib.Core.List.{List, _++_}
+use Prim.Native.Nat.{ℕ, _+_, _-_, _*_, _≤_}
+use lib.ListN.{length, drop}
+use Rattle.duality.specs.Steps.{most}
+use Rattle.auction.specs.declared.board.Auction.{Auction}
+use Rattle.auction.specs.declared.replay.Ending.{Ending}
+use Rattle.auction.specs.declared.replay.Replayed.{Replayed}
+use Rattle.auction.specs.Rule.{done}
+use Rattle.auction.specs.Histories.{Reached}
+use Rattle.auction.specs.Replay.{replayOf}
+use Rattle.hungarian.specs.Exact.{greatestOn}
+use Rattle.history.specs.declared.planning.Planned.{Planned}
+use Rattle.history.specs.Limits.{maxOutput}
+use Rattle.history.specs.Output.{worthOf, sumOf, outputOf}
+use Rattle.history.specs.Plan.{PlanOutcome, outcome, planOf}
+
+-- A text is accepted: it was replayed to its end, to a board with so many bids in all
+abbrev pub Accepted : List ℕ → Replayed → Type 0
+Accepted s r = (replayOf s ≡ done r) × (r .answer ≡ Ending.Finished)
+
+-- Every text has an outcome
+abbrev pub PlanEnds : Type 0
+PlanEnds = (s out : List ℕ) → (o : PlanOutcome) × (planOf s out ≡ done o)
+
+-- No output is longer than the constant
+abbrev pub OutputFits : Type 0
+OutputFits = (s : List ℕ) (r : Replayed) → Accepted s r → length (outputOf (r .auction) (r .bids)) ≤ maxOutput
+
+-- So with a list of that length an accepted text is written, and 8 never shows
+abbrev pub AcceptedIsWritten : Type 0
+AcceptedIsWritten =
+    (s out : List ℕ) (r : Replayed) → Accepted s r → maxOutput ≤ length out →
+    planOf s out ≡ done (outcome (Planned.Written (length (outputOf (r .auction) (r .bids)))) (outputOf (r .auction) (r .bids) ++ drop (length (outputOf (r .auction) (r .bids))) out))
+
+-- The printed figures of a board that a history of so many bids reaches
+pub record FiguresHold (b : Auction) (bids : ℕ) : Type 0 where
+  -- "Prices plus gains = (q + p) × worth"
+  pub sum : sumOf b ≡ (b .slack .q + b .slack .p) * worthOf b
+  -- "worth × (q + p) ≥ (q - p) × any plan's worth", so of the greatest
+  pub share : (b .slack .q - b .slack .p) * greatestOn b ≤ (b .slack .q + b .slack .p) * worthOf b
+  -- "the bids number at most the entries ever accepted times the whole part of (q - 1)/p"
+  pub edges : ℕ
+  pub reached : Reached b edges bids
+  pub few : bids ≤ edges * most (b .slack .p) (b .slack .q)
+
+abbrev pub PrintedFigures : Type 0
+PrintedFigures = (s : List ℕ) (r : Replayed) → Accepted s r → FiguresHold (r .auction) (r .bids)

@@ -1,0 +1,5 @@
+pub mod Figures
+pub mod Laws
+pub mod Limits
+pub mod Output
+pub mod Plan

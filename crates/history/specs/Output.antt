@@ -1,0 +1,60 @@
+-- What is printed, as bytes.
+use mathlib.Core.Bool.{Bool, false, cond}
+use mathlib.Core.List.{List, [], _∷_, _++_}
+use Prim.Native.Nat.{ℕ, zero, suc, _+_}
+use lib.ListN.{getD}
+use Rattle.text.specs.Print.{lineOf}
+use Rattle.duality.specs.Matching.{weightOf}
+use Rattle.duality.specs.Cover.{total}
+use Rattle.auction.specs.declared.board.Auction.{Auction}
+use Rattle.auction.specs.declared.refusal.Refusal.{Refusal}
+use Rattle.auction.specs.Cells.{priceAt, gainAt, withdrawnAt}
+use Rattle.auction.specs.Live.{live, matchingOf}
+use Rattle.auction.specs.Refusals.{codeOf}
+use Rattle.hungarian.specs.Exact.{greatestOn}
+
+-- "`P` batch, kettle or 0, gain": the lines of the first n bidders, in rising order
+unfoldable pub bidderLines : (matching gain : ℕ → ℕ) → ℕ → List ℕ
+bidderLines matching gain zero = []
+bidderLines matching gain (suc i) = bidderLines matching gain i ++ lineOf 80 ((i + 1) ∷ matching i ∷ gain i ∷ [])
+
+-- "`Y` kettle, price (withdrawn ones omitted)"
+abbrev pub itemLine : Bool → ℕ → ℕ → List ℕ
+itemLine withdrawn number price = cond withdrawn [] (lineOf 89 (number ∷ price ∷ []))
+
+-- the lines of the first n items, in rising order
+unfoldable pub itemLines : (withdrawn : ℕ → Bool) (price : ℕ → ℕ) → ℕ → List ℕ
+itemLines withdrawn price zero = []
+itemLines withdrawn price (suc k) = itemLines withdrawn price k ++ itemLine (withdrawn k) (k + 1) (price k)
+
+-- whether items are withdrawn, by cell
+abbrev pub flags : List Bool → ℕ → Bool
+flags withdrawn k = getD withdrawn k false
+
+-- "`T` worth, sum of prices and gains, bids in all; `E` greatest worth"
+abbrev pub lastLines : ℕ → ℕ → ℕ → ℕ → List ℕ
+lastLines weight sum bids greatest = lineOf 84 (weight ∷ sum ∷ bids ∷ []) ++ lineOf 69 (greatest ∷ [])
+
+-- the figures of a board: the weight of its plan, and the sum of its prices and gains. The greatest weight of any plan is greatestOn: duality's
+-- plain count over the live edges
+abbrev pub worthOf : Auction → ℕ
+worthOf b = weightOf (b .arrived) (live b) (matchingOf b)
+
+abbrev pub sumOf : Auction → ℕ
+sumOf b = total (b .arrived) (b .items) (priceAt b) (gainAt b)
+
+-- "prints, in lines and tabbed fields of the same kind but with numbers of any length, batches and then kettles in rising order": a board,
+-- and the bids in all
+unfoldable pub outputOf : Auction → ℕ → List ℕ
+outputOf b bids =
+    bidderLines (matchingOf b) (gainAt b) (b .arrived)
+    ++ (itemLines (withdrawnAt b) (priceAt b) (b .items)
+    ++ lastLines (worthOf b) (sumOf b) bids (greatestOn b))
+
+-- "A refused text prints only `R`, number, line"
+abbrev pub refusalLine : ℕ → ℕ → List ℕ
+refusalLine number line = lineOf 82 (number ∷ line ∷ [])
+
+-- the same of a refusal of the table
+abbrev pub refusalOf : Refusal → ℕ → List ℕ
+refusalOf r line = refusalLine (codeOf r .number) line

@@ -1,0 +1,4 @@
+// What a history text's plan is printed as, and what a refused text is answered.
+pub mod planning; // the calls
+mod output; // the lines of the output
+mod reading; // the figures of a board

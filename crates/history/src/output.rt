@@ -1,0 +1,75 @@
+// The lines of the output, written one after the other.
+use auction::board::Auction;
+use text::print::put_line;
+ghost use Prim.Native.Nat.{_+_, _*_, _≤_};
+ghost use Rattle.text.specs.Limits.{maxLine, maxAt};
+ghost use Rattle.text.specs.Print.{Put};
+ghost use Rattle.duality.specs.Lists.{cells};
+ghost use Rattle.auction.specs.Limits.{maxItems, maxBidders};
+ghost use Rattle.history.specs.Output.{bidderLines, itemLine, itemLines, flags, lastLines};
+
+// "`P` batch, kettle or 0, gain": a line for each bidder.
+pub(crate) fn put_bidders(
+    out: &mut [u8],
+    plan: &[u64; Auction::MAX_BIDDERS],
+    gains: &[u64; Auction::MAX_BIDDERS],
+    count: usize,
+) -> usize
+    requires { ⌜ count ≤ maxBidders ⌝ }
+    ensures { λ r. ⌜ Put (now (out .entry)) (now (out .exit)) 0 (bidderLines (cells (now (plan .entry))) (cells (now (gains .entry))) count) r × (r ≤ maxLine * count) ⌝ }
+{
+    let mut next: usize = 0;
+    let mut i: usize = 0;
+    while i < count {
+        next = put_line(out, next, b'P', [i as u64 + 1, plan[i], gains[i]], 3);
+        i += 1;
+    }
+    next
+}
+
+// "`Y` kettle, price (withdrawn ones omitted)": the line of an item.
+fn put_item(out: &mut [u8], at: usize, withdrawn: bool, number: u64, price: u64) -> usize
+    requires { ⌜ at ≤ maxAt ⌝ }
+    ensures { λ r. ⌜ Put (now (out .entry)) (now (out .exit)) at (itemLine withdrawn number price) r × (r ≤ at + maxLine) ⌝ }
+{
+    if withdrawn {
+        return at;
+    }
+    put_line(out, at, b'Y', [number, price, 0], 2)
+}
+
+// The lines of the items.
+pub(crate) fn put_items(
+    out: &mut [u8],
+    at: usize,
+    withdrawn: [bool; Auction::MAX_ITEMS],
+    prices: &[u64; Auction::MAX_ITEMS],
+    count: usize,
+) -> usize
+    requires { ⌜ (at ≤ maxLine * maxBidders) × (count ≤ maxItems) ⌝ }
+    ensures { λ r. ⌜ Put (now (out .entry)) (now (out .exit)) at (itemLines (flags withdrawn) (cells (now (prices .entry))) count) r × (r ≤ at + maxLine * count) ⌝ }
+{
+    let mut next = at;
+    let mut k: usize = 0;
+    while k < count {
+        next = put_item(out, next, withdrawn[k], k as u64 + 1, prices[k]);
+        k += 1;
+    }
+    next
+}
+
+// "`T` worth, sum of prices and gains, bids in all; `E` greatest worth".
+pub(crate) fn put_last(
+    out: &mut [u8],
+    at: usize,
+    weight: u64,
+    sum: u64,
+    bids: u64,
+    greatest: u64,
+) -> usize
+    requires { ⌜ at ≤ maxLine * (maxBidders + maxItems) ⌝ }
+    ensures { λ r. ⌜ Put (now (out .entry)) (now (out .exit)) at (lastLines weight sum bids greatest) r × (r ≤ at + maxLine * 2) ⌝ }
+{
+    let next = put_line(out, at, b'T', [weight, sum, bids], 3);
+    put_line(out, next, b'E', [greatest, 0, 0], 1)
+}

@@ -1,0 +1,67 @@
+-- `sum` meets its contract.
+use mathlib.Core.Path.{_≡_, refl}
+use Prim.Native.Nat.{_-_, _*_, _≤_}
+use native.Mathlib.Numerals.{add-one}
+use native.Mathlib.Omega.{arith}
+use Rattle.duality.specs.Lists.{cells}
+use Rattle.duality.specs.Sums.{sumTo}
+use Rattle.hungarian.proofs.solver.sum.Statement.{statement}
+use Rattle.hungarian.proofs.solver.sum.Tie as tie
+
+abbrev Inv-loop : tie.InvT-loop
+Inv-loop numbers n total₀ i₀ total i = (i ≤ n) × (total ≡ sumTo i (cells numbers)) × (total ≤ 4294967295 * i)
+
+abbrev μ-loop : tie.MeasureT-loop
+μ-loop numbers n total₀ i₀ total i = n - i
+
+loop-holds : tie.Need-loop-holds Inv-loop μ-loop
+loop-holds c = (omega arith, refl, omega arith)
+
+mul-total : tie.Need-mul-total Inv-loop μ-loop
+mul-total c = omega arith
+
+shared-slice-read-total : tie.Need-shared-slice-read-total Inv-loop μ-loop
+shared-slice-read-total c = omega arith
+
+cast-total : tie.Need-cast-total Inv-loop μ-loop
+cast-total c = omega (arith, c .shared-slice-known .given (c .before .before .loop .i))
+
+add-total : tie.Need-add-total Inv-loop μ-loop
+add-total c = omega (arith, c .shared-slice-known .given (c .before .before .loop .i))
+
+add-i : tie.Need-add-i Inv-loop μ-loop
+add-i c = omega arith
+
+loop-less : tie.Need-loop-less Inv-loop μ-loop
+loop-less c = omega arith
+
+loop-again : tie.Need-loop-again Inv-loop μ-loop
+loop-again c =
+    let l = c .before .before .loop in
+    let numbers = c .before .before .before .args .numbers .now in
+    let (below, e, small) = l .inv in
+    let fits = c .shared-slice-known .given (l .i) in
+    (omega arith, rw add-one (omega arith), omega arith)
+
+returns : tie.Need-returns Inv-loop μ-loop
+returns c =
+    let l = c .before .loop in
+    let (below, e, small) = l .inv in
+    let all : l .i ≡ c .before .before .args .n = omega arith in
+    (rw (← all) e, omega arith)
+
+pub sum-spec : {M : Type 1} → statement M
+sum-spec =
+    tie.close
+    (tie.spec
+    Inv-loop
+    μ-loop
+    loop-holds
+    mul-total
+    shared-slice-read-total
+    cast-total
+    add-total
+    add-i
+    loop-less
+    loop-again
+    returns)

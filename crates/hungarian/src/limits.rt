@@ -1,0 +1,15 @@
+// The limits of the solver are the board's. specs/Limits.antt has the same numbers.
+use auction::board::Auction;
+
+pub(crate) const ITEMS: usize = Auction::MAX_ITEMS;
+
+pub(crate) const BIDDERS: usize = Auction::MAX_BIDDERS;
+
+// A weight for each bidder and item, at bidder * ITEMS + item.
+pub(crate) const WEIGHTS: usize = Auction::MAX_CELLS;
+
+// In pence.
+pub(crate) const MAX_WEIGHT: u32 = 1000000;
+
+// The excess of an item to which no edge has been looked at: more than any gain.
+pub(crate) const UNREACHED: u32 = MAX_WEIGHT + 1;

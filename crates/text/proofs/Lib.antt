@@ -1,0 +1,5 @@
+pub mod Decimals
+pub mod Forms
+pub mod Lines
+pub mod Numbers
+pub mod Puts

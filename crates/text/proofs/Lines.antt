@@ -1,0 +1,31 @@
+-- Laws of fields and lines. Assumes nothing.
+use mathlib.Core.Path.{_≡_, refl}
+use Prim.Native.Nat.{ℕ, zero, suc, _+_}
+use mathlib.Core.Bool.{true, false}
+use mathlib.Core.List.{List, []}
+use lib.ListN.{getD}
+use borrow.Author.Tests.{ne-eqb}
+use Rattle.text.specs.Bytes.{tab, newline, isLetter}
+use Rattle.text.specs.Number.{fieldAt}
+use Rattle.text.specs.Line.{all, bad, follow, fieldsFrom, fieldsAt, badLine, lineWith, lineAt}
+
+-- what stands at a position decides the fields from there on
+pub at-newline : (k : ℕ) (s : List ℕ) (i : ℕ) → getD s i 0 ≡ newline → fieldsFrom (suc k) s i ≡ all [] (i + 1)
+at-newline k s i e = rw e
+
+pub at-tab : (k : ℕ) (s : List ℕ) (i : ℕ) → getD s i 0 ≡ tab → fieldsFrom (suc k) s i ≡ follow (fieldAt s (i + 1)) (λ n. fieldsFrom k s n)
+at-tab k s i e = rw e
+
+pub at-other : (k : ℕ) (s : List ℕ) (i : ℕ) → (getD s i 0 ≡ newline → ⊥) → (getD s i 0 ≡ tab → ⊥) → fieldsFrom k s i ≡ bad
+at-other zero s i h g = refl
+at-other (suc k) s i h g = rw (ne-eqb (getD s i 0) newline h, ne-eqb (getD s i 0) tab g)
+
+-- the line at a position, by the byte there
+module _ (s : List ℕ) (at letter : ℕ) (e : letter ≡ getD s at 0) where
+  pub lettered : isLetter letter ≡ true → lineWith letter (fieldsAt s (at + 1)) ≡ lineAt s at
+  unfolding lineAt
+  lettered h = rw (e, rw e at h)
+
+  pub unlettered : isLetter letter ≡ false → badLine ≡ lineAt s at
+  unfolding lineAt
+  unlettered h = rw (rw e at h)

@@ -1,0 +1,24 @@
+-- `print::put_field` meets its contract. Assumes nothing.
+use native.Mathlib.Omega.{arith}
+use Rattle.text.proofs.Puts.{put-then}
+use borrow.Author.Needs.{needs}
+use Rattle.text.proofs.print.put_field.Statement.{statement}
+use Rattle.text.proofs.print.put_field.Tie as tie
+
+put-byte-requires : tie.Need-put-byte-requires
+put-byte-requires c κs = search needs
+
+put-number-requires : tie.Need-put-number-requires
+put-number-requires c κs = search needs
+
+same-length : tie.Need-same-length
+same-length c = search needs
+
+returns : tie.Need-returns
+returns c =
+    let p = c .before .before in
+    let w = p .put-number .ensures in
+    (put-then (p .before .before .before .before .put-byte .ensures) (w .0), omega (arith, w .1))
+
+pub put-field-spec : {M : Type 1} → statement M
+put-field-spec = tie.close (tie.spec put-byte-requires put-number-requires same-length returns)

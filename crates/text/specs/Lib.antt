@@ -1,0 +1,6 @@
+pub mod Bytes
+pub mod Form
+pub mod Limits
+pub mod Line
+pub mod Number
+pub mod Print

@@ -1,0 +1,82 @@
+// The line at a position of a text: a letter and its numbers.
+ghost use mathlib.Core.Path.{_≡_};
+ghost use lib.ListN.{set};
+ghost use Rattle.text.specs.Line.{badLine, fieldsAt, lineWith, LineRead};
+use crate::NEWLINE;
+use crate::TAB;
+use crate::scan;
+use crate::scan::Field;
+
+// The numbers of a line that are kept: 65 pairs decide every refusal.
+pub const KEPT: usize = 130;
+
+// A line: its letter, the position of the next line, the number of all its fields, and the first
+// KEPT numbers, 0 where there are fewer. A line not of the form is 0 throughout.
+pub struct Line {
+    pub letter: u8,
+    pub next: usize,
+    pub count: usize,
+    pub numbers: [u64; KEPT],
+}
+
+fn bad_line() -> Line
+    ensures { λ r. ⌜ r ≡ badLine ⌝ }
+{
+    Line {
+        letter: 0,
+        next: 0,
+        count: 0,
+        numbers: [0u64; KEPT],
+    }
+}
+
+// The number of field i, where there is room for it.
+fn keep(numbers: &mut [u64], i: usize, number: u64)
+    ensures { λ _. ⌜ now (numbers .exit) ≡ set (now (numbers .entry)) i number ⌝ }
+{
+    if i < numbers.len() {
+        numbers[i] = number;
+    }
+}
+
+// A letter with the fields from a position on, to the end of the line.
+fn fields_at(text: &[u8], at: usize, letter: u8) -> Line
+    ensures { λ r. ⌜ r ≡ lineWith letter (fieldsAt (now (text .entry)) at) ⌝ }
+{
+    let mut numbers = [0u64; KEPT];
+    let mut count: usize = 0;
+    let mut i = at;
+    loop {
+        let byte = scan::byte_at(text, i);
+        if byte == NEWLINE {
+            let next = i + 1;
+            return Line {
+                letter,
+                next,
+                count,
+                numbers,
+            };
+        }
+        if byte != TAB {
+            return bad_line();
+        }
+        let field = scan::field_at(text, i + 1);
+        let Field::Number(number, next) = field else {
+            return bad_line();
+        };
+        keep(&mut numbers, count, number);
+        count = count + 1;
+        i = next;
+    }
+}
+
+// The line at a position.
+pub fn line_at(text: &[u8], at: usize) -> Line
+    ensures { λ r. ⌜ LineRead (now (text .entry)) at r ⌝ }
+{
+    let letter = scan::byte_at(text, at);
+    if scan::is_within(b'A', b'Z', letter) {
+        return fields_at(text, at + 1, letter);
+    }
+    bad_line()
+}
