@@ -26,7 +26,7 @@ use Rattle.auction.specs.Cells.{withdrawnAt}
 use Rattle.auction.specs.Sound.{Sound, SlackIn}
 use Rattle.auction.specs.SoundTest.{soundTest}
 use Rattle.auction.specs.Rule.{Outcome, done, spent}
-use Rattle.auction.specs.Refusals.{firstOf, Within, Check, check}
+use Rattle.auction.specs.Refusals.{firstOf, Within, Check, check, Demand1}
 use Rattle.auction.specs.Edges.{itemIn, weightIn, withinTest, orderTest, edgeChecks, edgesChecks, rowTo}
 use Rattle.auction.specs.Calls.{opened, slackTest, OpenMet, count, slack, openChecks, openBy, openOf, ArriveMet, arriveRest, arriveChecks, arrivalOf, arrivedOf, arriveBy, arriveOf, WithdrawMet, withdrawRest, withdrawChecks, withdrawalOf, withdrawnOf, withdrawBy, withdrawOf, Lists, Roomy, roomTest, ReadOutMet, readOutChecks, readOutBy, readOutOf, outcome}
 use Rattle.auction.specs.Demand1.{OpenDemand1, ArriveDemand1, WithdrawDemand1, ReadOutDemand1}
@@ -63,6 +63,41 @@ open-demand-1 items p q =
     by-ready : (v : Verdict) → openBy items p q v ≡ record { auction = opened items p q; answer = Opened.Ready } → v ≡ Served
     by-ready Served e = refl
     by-ready (Refused s) e = let a : Opened.Refused s ≡ Opened.Ready = ap (λ o. o .answer) e in let z : _≡_ {A = ℕ} 0 1 = cc in absurd (omega arith)
+
+-- ---- A call that runs a chain of bids where it serves: arrive and withdraw
+
+chain-demand-1 : {A : Type 0} {Met : Refusal → Type 0} {checks : List Check} (by : Verdict → Outcome A) (served : Auction → ℕ → A) (refused : Refusal → A) →
+    Decided Met checks →
+    ((r : Refusal) → by (Refused r) ≡ done (refused r)) →
+    ((a : A) → by Served ≡ done a → (c : Auction) × (n : ℕ) × (a ≡ served c n)) →
+    ((r s : Refusal) → refused r ≡ refused s → r ≡ s) →
+    ((r : Refusal) (c : Auction) (n : ℕ) → refused r ≡ served c n → ⊥) →
+    (a : A) × (by (firstOf checks) ≡ done a) →
+    Demand1 Met checks (λ r. by (firstOf checks) ≡ done (refused r)) ((c : Auction) × (n : ℕ) × (by (firstOf checks) ≡ done (served c n)))
+chain-demand-1 {A} {Met} {checks} by served refused ds refuses bids same other finished =
+    demand-1 ds
+    (λ r. (λ e. ap by e ∙ refuses r, λ e. by-refused r (firstOf checks) e))
+    (λ e. serve e, λ s. by-bids (s .0) (s .1) (firstOf checks) (s .2))
+  where
+    by-refused : (r : Refusal) (v : Verdict) → by v ≡ done (refused r) → v ≡ Refused r
+    by-refused r Served e = let (c, n, h) = bids (refused r) e in absurd (other r c n h)
+    by-refused r (Refused s) e =
+        let d : done (refused s) ≡ done (refused r) = sym (refuses s) ∙ e in
+        let f : refused s ≡ refused r = cc in
+        ap Refused (same s r f)
+
+    by-bids : (c : Auction) (n : ℕ) (v : Verdict) → by v ≡ done (served c n) → v ≡ Served
+    by-bids c n Served e = refl
+    by-bids c n (Refused s) e =
+        let d : done (refused s) ≡ done (served c n) = sym (refuses s) ∙ e in
+        let f : refused s ≡ served c n = cc in
+        absurd (other s c n f)
+
+    serve : firstOf checks ≡ Served → (c : Auction) × (n : ℕ) × (by (firstOf checks) ≡ done (served c n))
+    serve e =
+        let (a, h) = finished in
+        let (c, n, g) = bids a (sym (ap by e) ∙ h) in
+        (c, n, h ∙ ap done g)
 
 -- ---- Arrive
 
@@ -123,32 +158,14 @@ arrival-bids (done s) a e = (s .bids, let h : arrival (s .auction) (Arrived.Bids
 pub arrive-demand-1 : ArriveDemand1
 unfolding arriveOf arriveBy
 arrive-demand-1 b edges =
-    demand-1 (arrive-decided b edges)
-    (λ r. (λ e. rw e, λ e. by-refused r (firstOf (arriveChecks b edges)) e))
-    (λ e. serve e, λ s. by-bids (s .0) (s .1) (firstOf (arriveChecks b edges)) (s .2))
+    chain-demand-1 (arriveBy b edges) (λ c n. arrival c (Arrived.Bids n)) (λ r. arrival b (Arrived.Refused r)) (arrive-decided b edges)
+    (λ r. refl) bids
+    (λ r s e. let f : Arrived.Refused r ≡ Arrived.Refused s = ap (λ x. x .answer) e in cc)
+    (λ r c n e. let f : Arrived.Refused r ≡ Arrived.Bids n = ap (λ x. x .answer) e in let z : _≡_ {A = ℕ} 0 1 = cc in omega arith)
+    (arrive-ends b edges)
   where
-    by-refused : (r : Refusal) (v : Verdict) → arriveBy b edges v ≡ done (record { auction = b; answer = Arrived.Refused r }) → v ≡ Refused r
-    by-refused r Served e =
-        let (n, h) = arrival-bids _ _ e in
-        let a : Arrived.Refused r ≡ Arrived.Bids n = h in
-        let z : _≡_ {A = ℕ} 0 1 = cc in absurd (omega arith)
-    by-refused r (Refused s) e =
-        let a : arrival b (Arrived.Refused s) ≡ arrival b (Arrived.Refused r) = cc in
-        let f : Arrived.Refused s ≡ Arrived.Refused r = ap (λ x. x .answer) a in
-        let h : s ≡ r = cc in ap Refused h
-
-    by-bids : (c : Auction) (n : ℕ) (v : Verdict) → arriveBy b edges v ≡ done (record { auction = c; answer = Arrived.Bids n }) → v ≡ Served
-    by-bids c n Served e = refl
-    by-bids c n (Refused s) e =
-        let a : arrival b (Arrived.Refused s) ≡ arrival c (Arrived.Bids n) = cc in
-        let f : Arrived.Refused s ≡ Arrived.Bids n = ap (λ x. x .answer) a in
-        let z : _≡_ {A = ℕ} 0 1 = cc in absurd (omega arith)
-
-    serve : firstOf (arriveChecks b edges) ≡ Served → (c : Auction) × (n : ℕ) × (arriveOf b edges ≡ done (record { auction = c; answer = Arrived.Bids n }))
-    serve e =
-        let (a, h) = arrive-ends b edges in
-        let (n, g) = arrival-bids _ a (rw e at h) in
-        (a .auction, n, rw (← g) h)
+    bids : (a : Arrival) → arriveBy b edges Served ≡ done a → (c : Auction) × (n : ℕ) × (a ≡ arrival c (Arrived.Bids n))
+    bids a e = let (n, h) = arrival-bids _ a e in (a .auction, n, rw (← h) refl)
 
 -- ---- Withdraw
 
@@ -181,32 +198,14 @@ withdrawal-bids (done s) a e = (s .bids, let h : withdrawal (s .auction) (Withdr
 pub withdraw-demand-1 : WithdrawDemand1
 unfolding withdrawOf withdrawBy
 withdraw-demand-1 b item =
-    demand-1 (withdraw-decided b item)
-    (λ r. (λ e. rw e, λ e. by-refused r (firstOf (withdrawChecks b item)) e))
-    (λ e. serve e, λ s. by-bids (s .0) (s .1) (firstOf (withdrawChecks b item)) (s .2))
+    chain-demand-1 (withdrawBy b item) (λ c n. withdrawal c (Withdrawn.Bids n)) (λ r. withdrawal b (Withdrawn.Refused r)) (withdraw-decided b item)
+    (λ r. refl) bids
+    (λ r s e. let f : Withdrawn.Refused r ≡ Withdrawn.Refused s = ap (λ x. x .answer) e in cc)
+    (λ r c n e. let f : Withdrawn.Refused r ≡ Withdrawn.Bids n = ap (λ x. x .answer) e in let z : _≡_ {A = ℕ} 0 1 = cc in omega arith)
+    (withdraw-ends b item)
   where
-    by-refused : (r : Refusal) (v : Verdict) → withdrawBy b item v ≡ done (record { auction = b; answer = Withdrawn.Refused r }) → v ≡ Refused r
-    by-refused r Served e =
-        let (n, h) = withdrawal-bids _ _ e in
-        let a : Withdrawn.Refused r ≡ Withdrawn.Bids n = h in
-        let z : _≡_ {A = ℕ} 0 1 = cc in absurd (omega arith)
-    by-refused r (Refused s) e =
-        let a : withdrawal b (Withdrawn.Refused s) ≡ withdrawal b (Withdrawn.Refused r) = cc in
-        let f : Withdrawn.Refused s ≡ Withdrawn.Refused r = ap (λ x. x .answer) a in
-        let h : s ≡ r = cc in ap Refused h
-
-    by-bids : (c : Auction) (n : ℕ) (v : Verdict) → withdrawBy b item v ≡ done (record { auction = c; answer = Withdrawn.Bids n }) → v ≡ Served
-    by-bids c n Served e = refl
-    by-bids c n (Refused s) e =
-        let a : withdrawal b (Withdrawn.Refused s) ≡ withdrawal c (Withdrawn.Bids n) = cc in
-        let f : Withdrawn.Refused s ≡ Withdrawn.Bids n = ap (λ x. x .answer) a in
-        let z : _≡_ {A = ℕ} 0 1 = cc in absurd (omega arith)
-
-    serve : firstOf (withdrawChecks b item) ≡ Served → (c : Auction) × (n : ℕ) × (withdrawOf b item ≡ done (record { auction = c; answer = Withdrawn.Bids n }))
-    serve e =
-        let (a, h) = withdraw-ends b item in
-        let (n, g) = withdrawal-bids _ a (rw e at h) in
-        (a .auction, n, rw (← g) h)
+    bids : (a : Withdrawal) → withdrawBy b item Served ≡ done a → (c : Auction) × (n : ℕ) × (a ≡ withdrawal c (Withdrawn.Bids n))
+    bids a e = let (n, h) = withdrawal-bids _ a e in (a .auction, n, rw (← h) refl)
 
 -- ---- Read out
 

@@ -9,6 +9,7 @@ pub mod Filed
 pub mod Offers
 pub mod SoundLaw
 pub mod Buffers
+pub mod Gathered
 pub mod CallVerdicts
 pub mod Demand2
 pub mod Demand1
@@ -30,7 +31,6 @@ pub mod LiveLaws
 pub mod Placing
 pub mod SoundPass
 pub mod SoundTests
-pub mod Compute
 pub mod ReplayForms
 pub mod ReplayLines
 pub mod ReplayLaws

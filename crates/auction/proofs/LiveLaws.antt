@@ -64,14 +64,6 @@ module _ (holder : List ℕ) where
   pub held-none : (m i k : ℕ) → heldBy holder m i ≡ 0 → k < m → getD holder k 0 ≡ suc i → ⊥
   held-none m i k z l e = omega (arith, held-last m i k l e)
 
-  -- Where no two cells name one bidder, it holds the one item that names it
-  pub held-only : (m i k : ℕ) → ((j : ℕ) → j < m → getD holder j 0 ≡ suc i → j ≡ k) → k < m → getD holder k 0 ≡ suc i → heldBy holder m i ≡ suc k
-  held-only m i k apart l e = go (heldBy holder m i) refl
-    where
-      go : (c : ℕ) → heldBy holder m i ≡ c → c ≡ suc k
-      go zero z = absurd (held-none m i k z l e)
-      go (suc j) z = let r = held-names m i j z in omega (arith, apart j (r .0) (r .1))
-
 -- ---- The edges of a row: `ws` are its weights.
 
 -- One edge more at the end of edges that rise, above them all

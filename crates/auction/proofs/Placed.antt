@@ -52,10 +52,6 @@ module _ {b : Auction} (f : Framed b) {i k : ℕ} (li : i < b .arrived) (lk : k 
   unfolding placedAt
   price-placed = scaled-set (b .price) k y (omega arith)
 
-  pub gain-placed : gainAt (placedAt b i k g y) ≡ upd i g (gainAt b)
-  unfolding placedAt
-  gain-placed = scaled-set (b .gain) i g (omega arith)
-
   -- and x none
   pub gain-moved : {x : ℕ} → x ≢ i → gainAt (displaced (placedAt b i k g y) x) ≡ moved i g x (gainAt b)
   unfolding placedAt displaced

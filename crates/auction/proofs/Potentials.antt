@@ -126,7 +126,3 @@ potential-released {b} f {k} lk =
     sumTo-le (b .arrived) _ _ (λ i _. sumTo-le (b .items) _ _ (λ j _. by-cases (ℕ-discrete j k)
     (λ (e : j ≡ k). rw (e, getD-set-same (b .withdrawn) k true false (omega arith)) (part-gone _ _ (weightAt b i k) (withdrawnAt b k) (priceAt b k) _))
     (λ ne. rw (getD-set-other (b .withdrawn) k j true false ne, scaled-other (b .price) k 0 j ne) (le-refl _))))
-
-pub count-released : (b : Auction) (k : ℕ) → edgeCount (released b k) ≡ edgeCount b
-unfolding edgeCount released
-count-released b k = refl

@@ -19,7 +19,7 @@ use Rattle.auction.specs.Limits.{maxEdges}
 use Rattle.auction.specs.Rule.{Outcome}
 use Rattle.auction.specs.Edges.{edgesFrom}
 use Rattle.auction.specs.Calls.{opened, arriveOf, withdrawOf}
-use Rattle.auction.specs.Replay.{opens, arrives, withdraws, pairsOf, entryOf, stopped, afterArrival, afterWithdrawal, carryOut, firstLine}
+use Rattle.auction.specs.Replay.{opens, arrives, withdraws, pairsOf, commandOf, stopped, afterArrival, afterWithdrawal, carryOut, firstLine}
 
 -- The forms, as tests
 abbrev pub isOpening : Line → Bool
@@ -39,44 +39,44 @@ module _ (l : Line) where
   letter-is : (kind : ℕ) (fits : Bool) → eqb (l .letter) kind && fits ≡ true → l .letter ≡ kind
   letter-is kind fits e = eqb-true (l .letter) kind (both (eqb (l .letter) kind) fits e .0)
 
-  pub says-opens : isOpening l ≡ true → entryOf l ≡ opens (getD (l .numbers) 0 0) (getD (l .numbers) 1 0) (getD (l .numbers) 2 0)
-  unfolding entryOf
+  pub says-opens : isOpening l ≡ true → commandOf l ≡ opens (getD (l .numbers) 0 0) (getD (l .numbers) 1 0) (getD (l .numbers) 2 0)
+  unfolding commandOf
   says-opens e = rw e
 
-  says-arrives : isArrival l ≡ true → entryOf l ≡ arrives (edgesSaid l)
-  unfolding entryOf
+  says-arrives : isArrival l ≡ true → commandOf l ≡ arrives (edgesSaid l)
+  unfolding commandOf
   says-arrives e = let a = letter-is 65 (eqb (l .count % 2) 0) e in rw (ne-eqb (l .letter) 75 (λ q. omega arith), e)
 
-  says-withdraws : isWithdrawal l ≡ true → entryOf l ≡ withdraws (getD (l .numbers) 0 0)
-  unfolding entryOf
+  says-withdraws : isWithdrawal l ≡ true → commandOf l ≡ withdraws (getD (l .numbers) 0 0)
+  unfolding commandOf
   says-withdraws e =
       let a = letter-is 87 (eqb (l .count) 1) e in
       rw (ne-eqb (l .letter) 75 (λ q. omega arith), ne-eqb (l .letter) 65 (λ q. omega arith), e)
 
   -- A line after the first: an arrival, a withdrawal, or else a further `K` or no form
   module _ (next : Auction → ℕ → Outcome Replayed) (n : ℕ) (b : Auction) (bids : ℕ) where
-    pub carries-arrival : isArrival l ≡ true → carryOut next n b bids (entryOf l) ≡ afterArrival next n bids (arriveOf b (edgesSaid l))
+    pub carries-arrival : isArrival l ≡ true → carryOut next n b bids (commandOf l) ≡ afterArrival next n bids (arriveOf b (edgesSaid l))
     unfolding carryOut
     carries-arrival e = rw (says-arrives e)
 
-    pub carries-withdrawal : isWithdrawal l ≡ true → carryOut next n b bids (entryOf l) ≡ afterWithdrawal next n bids (withdrawOf b (getD (l .numbers) 0 0))
+    pub carries-withdrawal : isWithdrawal l ≡ true → carryOut next n b bids (commandOf l) ≡ afterWithdrawal next n bids (withdrawOf b (getD (l .numbers) 0 0))
     unfolding carryOut
     carries-withdrawal e = rw (says-withdraws e)
 
-    pub carries-none : isArrival l ≡ false → isWithdrawal l ≡ false → carryOut next n b bids (entryOf l) ≡ stopped b bids (Refusal.Line n) n
-    unfolding entryOf carryOut
+    pub carries-none : isArrival l ≡ false → isWithdrawal l ≡ false → carryOut next n b bids (commandOf l) ≡ stopped b bids (Refusal.Line n) n
+    unfolding commandOf carryOut
     carries-none e f = go (isOpening l) refl
       where
-        go : (t : Bool) → isOpening l ≡ t → carryOut next n b bids (entryOf l) ≡ stopped b bids (Refusal.Line n) n
+        go : (t : Bool) → isOpening l ≡ t → carryOut next n b bids (commandOf l) ≡ stopped b bids (Refusal.Line n) n
         go true q = rw q
         go false q = rw (q, e, f)
 
   -- The first line, where it is no `K`
-  pub opens-none : isOpening l ≡ false → (s : List ℕ) (at : ℕ) → firstLine s at (entryOf l) ≡ stopped (opened 0 0 0) 0 (Refusal.Line 1) 1
-  unfolding entryOf firstLine
+  pub opens-none : isOpening l ≡ false → (s : List ℕ) (at : ℕ) → firstLine s at (commandOf l) ≡ stopped (opened 0 0 0) 0 (Refusal.Line 1) 1
+  unfolding commandOf firstLine
   opens-none e s at = go (isArrival l) (isWithdrawal l) refl refl
     where
-      go : (t u : Bool) → isArrival l ≡ t → isWithdrawal l ≡ u → firstLine s at (entryOf l) ≡ stopped (opened 0 0 0) 0 (Refusal.Line 1) 1
+      go : (t u : Bool) → isArrival l ≡ t → isWithdrawal l ≡ u → firstLine s at (commandOf l) ≡ stopped (opened 0 0 0) 0 (Refusal.Line 1) 1
       go true u q p = rw (e, q)
       go false true q p = rw (e, q, p)
       go false false q p = rw (e, q, p)

@@ -19,7 +19,7 @@ use Rattle.auction.specs.declared.replay.Replayed.{Replayed}
 use Rattle.auction.specs.Limits.{maxEdges, maxText}
 use Rattle.auction.specs.Rule.{Outcome, done}
 use Rattle.auction.specs.Calls.{openOf, arriveOf}
-use Rattle.auction.specs.Replay.{Entry, opens, arrives, withdraws, malformed, pairsOf, entryOf, afterArrival, carryOut, linesFrom, afterOpened, firstLine, replayOf}
+use Rattle.auction.specs.Replay.{Command, opens, arrives, withdraws, malformed, pairsOf, commandOf, afterArrival, carryOut, linesFrom, afterOpened, firstLine, replayOf}
 use Rattle.auction.specs.ReplayLaws.{ReachedBy, ReplayEnds, ReplayReached, LineEdges}
 use Rattle.auction.proofs.Filed.{sets-in}
 use Rattle.auction.proofs.EnoughEdges.{enough-edges}
@@ -39,14 +39,14 @@ lines-ended : (fuel : ℕ) (s : List ℕ) (at n : ℕ) → EndsFrom fuel s at n
 lines-ended zero s at n b bids h f t = absurd (omega arith)
 lines-ended (suc fuel) s at n b bids h f t = go (ltb at (length s)) refl (lines-ended fuel s (lineAt s at .next) (n + 1))
   where
-    by-line : {r : Replayed} → at < length s → Carried n b bids (entryOf (lineAt s at)) r → EndsFrom fuel s (lineAt s at .next) (n + 1) → Ends (linesFrom (suc fuel) s at n b bids)
+    by-line : {r : Replayed} → at < length s → Carried n b bids (commandOf (lineAt s at)) r → EndsFrom fuel s (lineAt s at .next) (n + 1) → Ends (linesFrom (suc fuel) s at n b bids)
     by-line l (goes {c = c} {m = m} u v w) rest =
         let o = line-on s at w in
         rw (lines-turn s at n b bids fuel l, u (after s at n b bids fuel)) (rest c m (o .1) (omega arith) (v t))
     by-line l (stops u) rest = (_, lines-turn s at n b bids fuel l ∙ u _, unfinished)
 
     go : (x : Bool) → ltb at (length s) ≡ x → EndsFrom fuel s (lineAt s at .next) (n + 1) → Ends (linesFrom (suc fuel) s at n b bids)
-    go true q rest = by-line (ltb-true at (length s) q) (carried n b bids (entryOf (lineAt s at)) .1) rest
+    go true q rest = by-line (ltb-true at (length s) q) (carried n b bids (commandOf (lineAt s at)) .1) rest
     go false q rest = (_, lines-end s at n b bids fuel (ltb-false at (length s) q), λ e. t)
 
 opened-ended : (s : List ℕ) (at items p q : ℕ) → at ≤ length s → (a : Opened) → openOf items p q .answer ≡ a → Ends (afterOpened s at (openOf items p q .auction) a)
@@ -54,7 +54,7 @@ unfolding afterOpened
 opened-ended s at items p q h Opened.Ready e = lines-ended (suc (length s)) s at 2 (openOf items p q .auction) 0 h (omega arith) (opening-reached items p q refl e)
 opened-ended s at items p q h (Opened.Refused r) e = (_, refl, unfinished)
 
-first-ended : (s : List ℕ) (at : ℕ) (entry : Entry) → ((entry ≡ malformed → ⊥) → at ≤ length s) → Ends (firstLine s at entry)
+first-ended : (s : List ℕ) (at : ℕ) (command : Command) → ((command ≡ malformed → ⊥) → at ≤ length s) → Ends (firstLine s at command)
 unfolding firstLine
 first-ended s at (opens items p q) h = opened-ended s at items p q (h (λ e. let z : _≡_ {A = ℕ} 0 1 = cc in omega arith)) (openOf items p q .answer) refl
 first-ended s at (arrives edges) h = (_, refl, unfinished)
@@ -67,7 +67,7 @@ replay-ended s = go (ltb maxText (length s)) refl
   where
     go : (x : Bool) → ltb maxText (length s) ≡ x → Ends (replayOf s)
     go true q = rw q (_, refl, unfinished)
-    go false q = rw q (first-ended s (lineAt s 0 .next) (entryOf (lineAt s 0)) (λ f. line-on s 0 f .1))
+    go false q = rw q (first-ended s (lineAt s 0 .next) (commandOf (lineAt s 0)) (λ f. line-on s 0 f .1))
 
 pub replay-ends : ReplayEnds
 replay-ends s = let u = replay-ended s in (u .0, u .1)

@@ -27,7 +27,7 @@ use Rattle.auction.specs.Rule.{Outcome, done}
 use Rattle.auction.specs.Refusals.{firstOf}
 use Rattle.auction.specs.Calls.{opened, openChecks, openBy, openOf, arrival, arriveOf, withdrawal, withdrawOf}
 use Rattle.auction.specs.Histories.{Reached}
-use Rattle.auction.specs.Replay.{Entry, opens, arrives, withdraws, malformed, entryOf, finished, stopped, afterArrived, afterArrival, afterWithdrawn, afterWithdrawal, carryOut, linesFrom, afterOpened, firstLine, replayOf}
+use Rattle.auction.specs.Replay.{Command, opens, arrives, withdraws, malformed, commandOf, finished, stopped, afterArrived, afterArrival, afterWithdrawn, afterWithdrawal, carryOut, linesFrom, afterOpened, firstLine, replayOf}
 use Rattle.auction.specs.ReplayLaws.{replayed, ReachedBy}
 use Rattle.auction.proofs.Potentials.{potential-within}
 use Rattle.auction.proofs.Turns.{limit-small}
@@ -87,13 +87,13 @@ module _ (next : Next) (n bids : ℕ) {c : Auction} where
 
 -- ---- A line carried out: the lines that follow go on from there, or it is refused
 
-pub data Carried (n : ℕ) (b : Auction) (bids : ℕ) (entry : Entry) : Replayed → Type 0 where
-  goes : {c : Auction} {m : ℕ} → ((next : Next) → carryOut next n b bids entry ≡ next c m) → (ReachedBy b bids → ReachedBy c m) →
-      (entry ≡ malformed → ⊥) → Carried n b bids entry (replayed c m Ending.Finished)
-  stops : {c : Auction} {r : Refusal} → ((next : Next) → carryOut next n b bids entry ≡ stopped c bids r n) →
-      Carried n b bids entry (replayed c bids (Ending.Stopped r n))
+pub data Carried (n : ℕ) (b : Auction) (bids : ℕ) (command : Command) : Replayed → Type 0 where
+  goes : {c : Auction} {m : ℕ} → ((next : Next) → carryOut next n b bids command ≡ next c m) → (ReachedBy b bids → ReachedBy c m) →
+      (command ≡ malformed → ⊥) → Carried n b bids command (replayed c m Ending.Finished)
+  stops : {c : Auction} {r : Refusal} → ((next : Next) → carryOut next n b bids command ≡ stopped c bids r n) →
+      Carried n b bids command (replayed c bids (Ending.Stopped r n))
 
-pub carried : (n : ℕ) (b : Auction) (bids : ℕ) (entry : Entry) → (r : Replayed) × Carried n b bids entry r
+pub carried : (n : ℕ) (b : Auction) (bids : ℕ) (command : Command) → (r : Replayed) × Carried n b bids command r
 unfolding carryOut
 carried n b bids (opens k p q) = (_, stops {r = Refusal.Line n} (λ next. refl))
 carried n b bids malformed = (_, stops {r = Refusal.Line n} (λ next. refl))
@@ -114,35 +114,35 @@ carried n b bids (withdraws item) = let u = withdraw-ends b item in go (u .0 .au
 pub unfinished : {A : Type 0} {r : Refusal} {n : ℕ} → Ending.Stopped r n ≡ Ending.Finished → A
 unfinished e = let z : _≡_ {A = ℕ} 0 1 = cc in absurd (omega arith)
 
-module _ {n : ℕ} {b : Auction} {bids : ℕ} {entry : Entry} where
-  alone : {r : Replayed} → Carried n b bids entry r → carryOut finished n b bids entry ≡ done r
+module _ {n : ℕ} {b : Auction} {bids : ℕ} {command : Command} where
+  alone : {r : Replayed} → Carried n b bids command r → carryOut finished n b bids command ≡ done r
   alone (goes f g h) = f finished
   alone (stops f) = f finished
 
   -- A line with nothing after it says what it does before others
-  carried-as : {r : Replayed} → done r ≡ carryOut finished n b bids entry → Carried n b bids entry r
+  carried-as : {r : Replayed} → done r ≡ carryOut finished n b bids command → Carried n b bids command r
   carried-as {r} e =
-      let u = carried n b bids entry in
+      let u = carried n b bids command in
       let h = e ∙ alone (u .1) in
       let q : u .0 ≡ r = cc in
-      subst (Carried n b bids entry) q (u .1)
+      subst (Carried n b bids command) q (u .1)
 
-  goes-on : {r : Replayed} → Carried n b bids entry r → r .answer ≡ Ending.Finished →
-      ((next : Next) → carryOut next n b bids entry ≡ next (r .auction) (r .bids)) × (ReachedBy b bids → ReachedBy (r .auction) (r .bids)) × (entry ≡ malformed → ⊥)
+  goes-on : {r : Replayed} → Carried n b bids command r → r .answer ≡ Ending.Finished →
+      ((next : Next) → carryOut next n b bids command ≡ next (r .auction) (r .bids)) × (ReachedBy b bids → ReachedBy (r .auction) (r .bids)) × (command ≡ malformed → ⊥)
   goes-on (goes f g h) e = (f, g, h)
   goes-on (stops f) e = unfinished e
 
-  stops-there : {r : Replayed} {q : Refusal} {m : ℕ} → Carried n b bids entry r → r .answer ≡ Ending.Stopped q m → (next : Next) → carryOut next n b bids entry ≡ done r
+  stops-there : {r : Replayed} {q : Refusal} {m : ℕ} → Carried n b bids command r → r .answer ≡ Ending.Stopped q m → (next : Next) → carryOut next n b bids command ≡ done r
   stops-there (goes f g h) e next = unfinished (sym e)
   stops-there (stops f) e next = f next
 
 -- ---- The lines from a position on
 
 -- A line of the form ends after it starts, in the text
-pub line-on : (s : List ℕ) (at : ℕ) → (entryOf (lineAt s at) ≡ malformed → ⊥) → (at < lineAt s at .next) × (lineAt s at .next ≤ length s)
-unfolding entryOf
+pub line-on : (s : List ℕ) (at : ℕ) → (commandOf (lineAt s at) ≡ malformed → ⊥) → (at < lineAt s at .next) × (lineAt s at .next ≤ length s)
+unfolding commandOf
 line-on s at f =
-    ⊎-elim (λ e. absurd (f (ap entryOf e)))
+    ⊎-elim (λ e. absurd (f (ap commandOf e)))
     (λ w. rw (line-complete s at (w .0) (w .1) (w .2)) (line-ahead s at (w .0) (w .1) (w .2)))
     (line-sound s at)
 
@@ -151,7 +151,7 @@ module _ (s : List ℕ) (at n : ℕ) (b : Auction) (bids fuel : ℕ) where
   abbrev pub after : Next
   after c more = linesFrom fuel s (lineAt s at .next) (n + 1) c more
 
-  pub lines-turn : at < length s → linesFrom (suc fuel) s at n b bids ≡ carryOut after n b bids (entryOf (lineAt s at))
+  pub lines-turn : at < length s → linesFrom (suc fuel) s at n b bids ≡ carryOut after n b bids (commandOf (lineAt s at))
   unfolding linesFrom
   lines-turn h = rw (lt-ltb at (length s) h)
 
@@ -184,11 +184,11 @@ module _ {s : List ℕ} {start : ℕ} {b₀ : Auction} {at n : ℕ} {b : Auction
   replaying-ends h = sym (rw turns (lines-end s at n b bids (length s + 3 - (n + 1)) h)) ∙ w .rest
 
   -- Line n was read, and carried out as r says
-  module _ (h : at < length s) {l : Line} (e : LineRead s at l) {r : Replayed} (c : done r ≡ carryOut finished n b bids (entryOf l)) where
-    step : Carried n b bids (entryOf (lineAt s at)) r
-    step = carried-as (c ∙ ap (λ (l : Line). carryOut finished n b bids (entryOf l)) (e .is))
+  module _ (h : at < length s) {l : Line} (e : LineRead s at l) {r : Replayed} (c : done r ≡ carryOut finished n b bids (commandOf l)) where
+    step : Carried n b bids (commandOf (lineAt s at)) r
+    step = carried-as (c ∙ ap (λ (l : Line). carryOut finished n b bids (commandOf l)) (e .is))
 
-    here : carryOut (after s at n b bids (length s + 3 - (n + 1))) n b bids (entryOf (lineAt s at)) ≡ allLines s start b₀
+    here : carryOut (after s at n b bids (length s + 3 - (n + 1))) n b bids (commandOf (lineAt s at)) ≡ allLines s start b₀
     here = sym (rw turns (lines-turn s at n b bids (length s + 3 - (n + 1)) h)) ∙ w .rest
 
     pub replaying-stops : {q : Refusal} {m : ℕ} → r .answer ≡ Ending.Stopped q m → done r ≡ allLines s start b₀
@@ -217,9 +217,9 @@ module _ (s : List ℕ) where
 
   -- The first line was read
   module _ (h : length s ≤ maxText) {l : Line} (e : LineRead s 0 l) where
-    begins : firstLine s (l .next) (entryOf l) ≡ replayOf s
+    begins : firstLine s (l .next) (commandOf l) ≡ replayOf s
     unfolding replayOf
-    begins = rw (le-ltb maxText (length s) h) (ap (λ (l : Line). firstLine s (l .next) (entryOf l)) (e .is))
+    begins = rw (le-ltb maxText (length s) h) (ap (λ (l : Line). firstLine s (l .next) (commandOf l)) (e .is))
 
     pub replay-none : isOpening l ≡ false → stopped (opened 0 0 0) 0 (Refusal.Line 1) 1 ≡ replayOf s
     replay-none t = sym (opens-none l t s (l .next)) ∙ begins
@@ -230,7 +230,7 @@ module _ (s : List ℕ) where
           rw (e .is)
           (line-on s 0 (λ q.
           let a = says-opens l t in
-          let b = ap entryOf (e .is) in
+          let b = ap commandOf (e .is) in
           let z : _≡_ {A = ℕ} 0 1 = cc in
           omega arith) .1)
 

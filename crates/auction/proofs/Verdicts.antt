@@ -3,14 +3,43 @@ use mathlib.Core.Path.{_≡_, refl, sym, ap, _∙_}
 use mathlib.Core.Bool.{Bool, true, false, cond}
 use mathlib.Core.List.{List, [], _∷_, _++_}
 use mathlib.Core.Logic.{_↔_}
-use Prim.Native.Nat.{ℕ}
+use Prim.Native.Nat.{ℕ, _-_}
+use lib.ListN.{getD}
 use native.Mathlib.Omega.{arith}
 use Rattle.duality.specs.Decide.{Decides}
 use Rattle.duality.proofs.Decide.{clash, false-is}
 use Rattle.auction.specs.declared.refusal.Refusal.{Refusal}
 use Rattle.auction.specs.declared.refusal.Verdict.{Verdict}
 use Rattle.auction.specs.declared.refusal.Verdict.the-variants.{Served, Refused}
-use Rattle.auction.specs.Refusals.{Check, check, firstOf, Unmet, none, also, Leads, Demand1}
+use Rattle.auction.specs.declared.refusal.Refusal.the-variants.{Count, Slack, Full, Unknown, Gone, Worth, Order, Short, Uneven, Clash, Price, Bare, Spoilt, Line, Long}
+use Rattle.auction.specs.Refusals.{Code, codeOf, CodesApart, Coded, Check, check, firstOf, Unmet, none, also, Leads, Demand1}
+
+-- The table's rows at a place, and the one with a number
+abbrev rows : ℕ → List Refusal
+rows i = Count ∷ Slack ∷ Full ∷ Unknown i ∷ Gone i ∷ Worth i ∷ Order i ∷ Short ∷ Uneven ∷ Clash i ∷ Price i ∷ Bare i ∷ Spoilt ∷ Line i ∷ Long ∷ []
+
+abbrev rowOf : Code → Refusal
+rowOf c = getD (rows (c .place)) (c .number - 1) Count
+
+row-of : (r : Refusal) → rowOf (codeOf r) ≡ r
+row-of Count = refl
+row-of Slack = refl
+row-of Full = refl
+row-of (Unknown i) = refl
+row-of (Gone i) = refl
+row-of (Worth i) = refl
+row-of (Order i) = refl
+row-of Short = refl
+row-of Uneven = refl
+row-of (Clash i) = refl
+row-of (Price i) = refl
+row-of (Bare i) = refl
+row-of Spoilt = refl
+row-of (Line i) = refl
+row-of Long = refl
+
+pub codes-apart : CodesApart
+codes-apart r s e = sym (row-of r) ∙ (ap rowOf e ∙ row-of s)
 
 apart : (r : Refusal) → Served ≡ Refused r → ⊥
 apart r e = let z : _≡_ {A = ℕ} 0 1 = cc in omega arith
@@ -82,6 +111,10 @@ demand-1 {Met} ds refused served =
       refused-by = λ r l. refused r .0 (refused-by Met ds r l);
       serves = λ s. serves Met ds (served .1 s);
       served-by = λ u. served .0 (served-by Met ds u);
+      numbered = λ c. (
+        λ a. record { refusal = a .refusal; coded = a .coded; holds = refuses Met ds (a .refusal) (refused (a .refusal) .1 (a .holds)) },
+        λ a. record { refusal = a .refusal; coded = a .coded; holds = refused (a .refusal) .0 (refused-by Met ds (a .refusal) (a .holds)) },
+      );
     }
 
 -- A list of checks in two parts

@@ -60,14 +60,17 @@ WithdrawDemand2 =
 
 -- ---- On every sound board, also one that no history reaches
 
+-- "I hold the dearest unplaced batch against each free kettle": no unplaced bidder has a live edge at a free item
+abbrev pub Busy : Auction → Type 0
+Busy b = (i k : ℕ) → i < b .arrived → matchingOf b i ≡ 0 → k < b .items → 0 < live b i k → holderOf (holderAt b k) ≡ Free → ⊥
+
 pub record SoundBoard (b : Auction) : Type 0 where
   -- "Prices plus gains = (q + p) × worth"
   pub sum : total (b .arrived) (b .items) (priceAt b) (gainAt b) ≡ (b .slack .q + b .slack .p) * weightOf (b .arrived) (live b) (matchingOf b)
   -- "worth × (q + p) ≥ (q - p) × any plan's worth"
   pub share : (other : ℕ → ℕ) → IsMatching (b .arrived) (b .items) (live b) other →
       (b .slack .q - b .slack .p) * weightOf (b .arrived) (live b) other ≤ (b .slack .q + b .slack .p) * weightOf (b .arrived) (live b) (matchingOf b)
-  -- No unplaced bidder has a live edge at a free item
-  pub busy : (i k : ℕ) → i < b .arrived → matchingOf b i ≡ 0 → k < b .items → 0 < live b i k → holderOf (holderAt b k) ≡ Free → ⊥
+  pub busy : Busy b
 
 abbrev pub SoundDemand2 : Type 0
 SoundDemand2 = (b : Auction) → Sound b → SoundBoard b

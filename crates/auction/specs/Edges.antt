@@ -1,7 +1,7 @@
 -- The edges that an arrival lends: how each is tested, and the row that they make. Edge i + 1 is cell i.
-use mathlib.Core.Bool.{Bool, true, false, not, _&&_}
+use mathlib.Core.Bool.{Bool, true, false, cond, not, _&&_}
 use mathlib.Core.List.{List, [], _∷_, _++_}
-use Prim.Native.Nat.{ℕ, zero, suc, _-_, min}
+use Prim.Native.Nat.{ℕ, zero, suc, _+_, _-_, min}
 use lib.ListN.{getD, set, replicate}
 use lib.Dec.{leb}
 use Rattle.auction.specs.declared.board.Edge.{Edge}
@@ -52,3 +52,13 @@ edgesFrom items weights (suc n) = edgesFrom items weights n ++ (edge (getD items
 
 abbrev pub bufferEdges : EdgeBuffer → List Edge
 bufferEdges buffer = edgesFrom (buffer .items) (buffer .weights) (min (buffer .count) maxEdges)
+
+-- A buffer of no edges
+abbrev pub emptyBuffer : EdgeBuffer
+emptyBuffer = record { items = replicate maxEdges 0; weights = replicate maxEdges 0; count = 0 }
+
+-- A buffer and one edge more; a full one as it is
+abbrev pub pushed : EdgeBuffer → Edge → EdgeBuffer
+pushed buffer e =
+    cond (leb maxEdges (buffer .count)) buffer
+    (record { items = set (buffer .items) (buffer .count) (e .item); weights = set (buffer .weights) (buffer .count) (e .weight); count = buffer .count + 1 })

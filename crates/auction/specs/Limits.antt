@@ -16,6 +16,10 @@ maxWeight = 1000000
 abbrev pub maxQ : ℕ
 maxQ = 1000
 
+-- "above 1,000,000,000": the most that a price or a gain may be that was made elsewhere
+abbrev pub maxPrice : ℕ
+maxPrice = 1000000000
+
 -- One edge more than there are items: so many decide every refusal of an arrival
 abbrev pub maxEdges : ℕ
 maxEdges = 65

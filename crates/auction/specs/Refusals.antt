@@ -2,6 +2,7 @@
 use mathlib.Core.Path.{_≡_}
 use mathlib.Core.Bool.{Bool, cond}
 use mathlib.Core.List.{List, [], _∷_, _++_}
+use mathlib.Core.Logic.{_↔_}
 use Prim.Native.Nat.{ℕ, _≤_}
 use Rattle.auction.specs.declared.refusal.Refusal.{Refusal}
 use Rattle.auction.specs.declared.refusal.Refusal.the-variants.{Count, Slack, Full, Unknown, Gone, Worth, Order, Short, Uneven, Clash, Price, Bare, Spoilt, Line, Long}
@@ -33,6 +34,16 @@ codeOf (Bare i) = code 12 i
 codeOf Spoilt = code 13 0
 codeOf (Line i) = code 14 i
 codeOf Long = code 15 0
+
+-- No two refusals have number and place in common
+abbrev pub CodesApart : Type 0
+CodesApart = (r s : Refusal) → codeOf r ≡ codeOf s → r ≡ s
+
+-- P of the refusal that has this number and place
+pub record Coded (P : Refusal → Type 0) (c : Code) : Type 0 where
+  pub refusal : Refusal
+  pub coded : codeOf refusal ≡ c
+  pub holds : P refusal
 
 -- A number from a to z
 pub record Within (a z x : ℕ) : Type 0 where
@@ -75,3 +86,5 @@ pub record Demand1 (Met : Refusal → Type 0) (checks : List Check) (Answers : R
   pub refused-by : (r : Refusal) → Leads Met checks r → Answers r
   pub serves : Serves → Unmet Met checks
   pub served-by : Unmet Met checks → Serves
+  -- In numbers: the answer is number n at place i exactly when that row of the table is the first that is met
+  pub numbered : (c : Code) → Coded Answers c ↔ Coded (Leads Met checks) c

@@ -25,11 +25,11 @@ use Rattle.auction.specs.Calls.{opened, openOf, arriveOf, withdrawOf}
 -- ---- A line's form
 
 -- What a line says: "`K`, kettles, p, q", "`A`, kettle, worth, kettle, worth and so on, or `W`, kettle"; or that it is not of the form
-pub data Entry : Type 0 where
-  opens : ℕ → ℕ → ℕ → Entry
-  arrives : List Edge → Entry
-  withdraws : ℕ → Entry
-  malformed : Entry
+pub data Command : Type 0 where
+  opens : ℕ → ℕ → ℕ → Command
+  arrives : List Edge → Command
+  withdraws : ℕ → Command
+  malformed : Command
 
 -- The first n pairs of numbers
 unfoldable pub pairsOf : List ℕ → ℕ → List Edge
@@ -38,8 +38,8 @@ pairsOf numbers (suc n) = pairsOf numbers n ++ (edge (getD numbers (2 * n) 0) (g
 
 -- A line has a letter (0 where it is no line), a count of numbers, and the first of these. Of an arrival's edges the first 65 decide all
 -- (EnoughEdges), so that it is carried out as with all its pairs (ReplayLaws says so: LineEdges)
-unfoldable pub entryOf : Line → Entry
-entryOf l =
+unfoldable pub commandOf : Line → Command
+commandOf l =
     cond (eqb (l .letter) 75 && eqb (l .count) 3) (opens (getD (l .numbers) 0 0) (getD (l .numbers) 1 0) (getD (l .numbers) 2 0))
     (cond (eqb (l .letter) 65 && eqb (l .count % 2) 0) (arrives (pairsOf (l .numbers) (min (l .count / 2) maxEdges)))
     (cond (eqb (l .letter) 87 && eqb (l .count) 1) (withdraws (getD (l .numbers) 0 0)) malformed))
@@ -71,7 +71,7 @@ afterWithdrawal next n bids spent = spent
 afterWithdrawal next n bids (done a) = afterWithdrawn next n (a .auction) bids (a .answer)
 
 -- A line after the first: "A line's form (14) is tested before its meaning"; a further `K` is not of the form
-unfoldable pub carryOut : (Auction → ℕ → Outcome Replayed) → ℕ → Auction → ℕ → Entry → Outcome Replayed
+unfoldable pub carryOut : (Auction → ℕ → Outcome Replayed) → ℕ → Auction → ℕ → Command → Outcome Replayed
 carryOut next n b bids (opens k p q) = stopped b bids (Refusal.Line n) n
 carryOut next n b bids (arrives edges) = afterArrival next n bids (arriveOf b edges)
 carryOut next n b bids (withdraws item) = afterWithdrawal next n bids (withdrawOf b item)
@@ -82,7 +82,7 @@ unfoldable pub linesFrom : ℕ → List ℕ → ℕ → ℕ → Auction → ℕ 
 linesFrom zero s at n b bids = spent
 linesFrom (suc fuel) s at n b bids =
     cond (ltb at (length s))
-    (carryOut (λ c more. linesFrom fuel s (lineAt s at .next) (n + 1) c more) n b bids (entryOf (lineAt s at)))
+    (carryOut (λ c more. linesFrom fuel s (lineAt s at .next) (n + 1) c more) n b bids (commandOf (lineAt s at)))
     (finished b bids)
 
 -- "First line `K`, kettles, p, q"; "an empty text is 14 at line 1". A text has fewer lines than bytes and one
@@ -90,7 +90,7 @@ unfoldable pub afterOpened : List ℕ → ℕ → Auction → Opened → Outcome
 afterOpened s at b Opened.Ready = linesFrom (suc (length s)) s at 2 b 0
 afterOpened s at b (Opened.Refused r) = stopped b 0 r 1
 
-unfoldable pub firstLine : List ℕ → ℕ → Entry → Outcome Replayed
+unfoldable pub firstLine : List ℕ → ℕ → Command → Outcome Replayed
 firstLine s at (opens k p q) = afterOpened s at (openOf k p q .auction) (openOf k p q .answer)
 firstLine s at (arrives edges) = stopped (opened 0 0 0) 0 (Refusal.Line 1) 1
 firstLine s at (withdraws item) = stopped (opened 0 0 0) 0 (Refusal.Line 1) 1
@@ -98,4 +98,4 @@ firstLine s at malformed = stopped (opened 0 0 0) 0 (Refusal.Line 1) 1
 
 -- "15 comes before all else"
 unfoldable pub replayOf : List ℕ → Outcome Replayed
-replayOf s = cond (ltb maxText (length s)) (stopped (opened 0 0 0) 0 Refusal.Long 0) (firstLine s (lineAt s 0 .next) (entryOf (lineAt s 0)))
+replayOf s = cond (ltb maxText (length s)) (stopped (opened 0 0 0) 0 Refusal.Long 0) (firstLine s (lineAt s 0 .next) (commandOf (lineAt s 0)))

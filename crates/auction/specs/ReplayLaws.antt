@@ -10,7 +10,7 @@ use Rattle.auction.specs.declared.replay.Ending.{Ending}
 use Rattle.auction.specs.declared.replay.Replayed.{Replayed}
 use Rattle.auction.specs.Rule.{Outcome, done}
 use Rattle.auction.specs.Histories.{Reached}
-use Rattle.auction.specs.Replay.{arrives, pairsOf, entryOf, carryOut, replayOf}
+use Rattle.auction.specs.Replay.{arrives, pairsOf, commandOf, carryOut, replayOf}
 
 -- How far a replay came
 abbrev pub replayed : Auction → ℕ → Ending → Replayed
@@ -34,4 +34,4 @@ abbrev pub LineEdges : Type 0
 LineEdges =
     (s : List ℕ) (at : ℕ) (ns : List ℕ) (next : ℕ) → LineForm s at ns next → getD s at 0 ≡ 65 → length ns % 2 ≡ 0 →
     (rest : Auction → ℕ → Outcome Replayed) (n : ℕ) (b : Auction) (bids : ℕ) →
-    carryOut rest n b bids (entryOf (lineAt s at)) ≡ carryOut rest n b bids (arrives (pairsOf ns (length ns / 2)))
+    carryOut rest n b bids (commandOf (lineAt s at)) ≡ carryOut rest n b bids (arrives (pairsOf ns (length ns / 2)))

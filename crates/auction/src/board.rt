@@ -8,21 +8,25 @@ ghost use Rattle.auction.specs.Cells.{holderOf, joined};
 pub struct Pence(pub u64);
 
 // q-ths of a penny: prices, gains and utilities.
+#[repr(C)]
 pub struct Scaled(pub u64);
 
 // The slack p/q.
+#[repr(C)]
 pub struct Slack {
     pub p: u64,
     pub q: u64,
 }
 
 // An edge as a caller hands it (document 01: an entry): an item's number and a weight in pence.
+#[repr(C)]
 pub struct Edge {
     pub item: u64,
     pub weight: u64,
 }
 
 // The board.
+#[repr(C)]
 pub struct Auction {
     pub items: u64,
     pub slack: Slack,
@@ -46,6 +50,8 @@ impl Auction {
     pub const MAX_WEIGHT: u64 = 1000000;
 
     pub const MAX_Q: u64 = 1000;
+    // The most that a price or a gain may be that was made elsewhere, in q-ths of a penny.
+    pub const MAX_PRICE: u64 = 1000000000;
     // One more edge than there are items: so many decide every refusal of an arrival.
     pub const MAX_EDGES: usize = 65;
     // The most bytes of a history text.
@@ -123,21 +129,21 @@ pub(crate) fn holder_of(cell: u8) -> Holder
     Holder::Held(cell as usize - 1)
 }
 
-// A factor of q-ths for each penny, times a weight. The two units meet here alone, and only Slack's functions choose the factor.
-fn times(factor: u64, weight: Pence) -> Scaled
-    requires { ⌜ (factor ≤ 2 * maxQ) × (weight .0 < 4294967296) ⌝ }
-    ensures { λ r. ⌜ r .0 ≡ factor * weight .0 ⌝ }
-{
-    Scaled(factor * weight.0)
-}
-
 impl Slack {
+    // A factor of q-ths for each penny, times a weight. The two units meet here alone, and only the functions below choose the factor.
+    fn times(factor: u64, weight: Pence) -> Scaled
+        requires { ⌜ (factor ≤ 2 * maxQ) × (weight .0 < 4294967296) ⌝ }
+        ensures { λ r. ⌜ r .0 ≡ factor * weight .0 ⌝ }
+    {
+        Scaled(factor * weight.0)
+    }
+
     // q times a weight.
     pub(crate) fn full(self, weight: Pence) -> Scaled
         requires { ⌜ (self .q ≤ maxQ) × (weight .0 < 4294967296) ⌝ }
         ensures { λ r. ⌜ r .0 ≡ self .q * weight .0 ⌝ }
     {
-        times(self.q, weight)
+        Slack::times(self.q, weight)
     }
 
     // p times a weight: what a bid raises a price by.
@@ -145,7 +151,7 @@ impl Slack {
         requires { ⌜ (self .p < self .q) × (self .q ≤ maxQ) × (weight .0 < 4294967296) ⌝ }
         ensures { λ r. ⌜ r .0 ≡ self .p * weight .0 ⌝ }
     {
-        times(self.p, weight)
+        Slack::times(self.p, weight)
     }
 
     // q - p times a weight: what gain and price must cover.
@@ -153,7 +159,7 @@ impl Slack {
         requires { ⌜ (self .p < self .q) × (self .q ≤ maxQ) × (weight .0 < 4294967296) ⌝ }
         ensures { λ r. ⌜ r .0 ≡ (self .q - self .p) * weight .0 ⌝ }
     {
-        times(self.q - self.p, weight)
+        Slack::times(self.q - self.p, weight)
     }
 
     // q + p times a weight: what a placed bidder's gain and its item's price add up to.
@@ -161,12 +167,12 @@ impl Slack {
         requires { ⌜ (self .p < self .q) × (self .q ≤ maxQ) × (weight .0 < 4294967296) ⌝ }
         ensures { λ r. ⌜ r .0 ≡ (self .q + self .p) * weight .0 ⌝ }
     {
-        times(self.q + self.p, weight)
+        Slack::times(self.q + self.p, weight)
     }
 }
 
 // The weight in a row's cell.
-pub fn weight_in(cell: u32) -> Pence
+pub(crate) fn weight_in(cell: u32) -> Pence
     ensures { λ r. ⌜ (r .0 ≡ cell) × (r .0 < 4294967296) ⌝ }
 {
     Pence(cell as u64)

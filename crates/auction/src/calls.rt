@@ -1,6 +1,7 @@
 // The calls. None asks anything of its caller: each tests the board it is handed, and what else it is lent.
 use crate::board::Auction;
 use crate::board::Book;
+use crate::board::Edge;
 use crate::board::Holder;
 use crate::board::Scaled;
 use crate::board::Slack;
@@ -8,6 +9,7 @@ use crate::board::holder_of;
 use crate::edges::EdgeBuffer;
 use crate::edges::edges_verdict;
 use crate::edges::file_row;
+use crate::edges::gather;
 use crate::edges::is_within;
 use crate::edges::row_of;
 use crate::refusal::Refusal;
@@ -257,6 +259,13 @@ impl Auction {
             auction: book.join(weights),
             answer,
         }
+    }
+
+    // A new bidder arrives with the edges of a slice of any length, and bids.
+    pub fn arrive(self, edges: &[Edge]) -> Arrival
+        ensures { λ r. ⌜ done r ≡ arriveOf self (now (edges .entry)) ⌝ }
+    {
+        self.arrive_buffer(gather(edges))
     }
 
     // An item is withdrawn, and its holder bids.

@@ -1,16 +1,19 @@
-// An arrival's edges: tested one by one, and written as a row.
+// An arrival's edges: gathered from a slice, tested one by one, and written as a row.
 use crate::board::Auction;
+use crate::board::Edge;
 use crate::refusal::Refusal;
 use crate::refusal::Verdict;
 ghost use mathlib.Core.Path.{_≡_};
-ghost use Prim.Native.Nat.{ℕ, _+_, _*_, _≤_, _<_};
+ghost use Prim.Native.Nat.{ℕ, _+_, _*_, _≤_, _<_, min};
 ghost use Rattle.auction.specs.Limits.{maxItems, maxBidders, maxEdges, maxWeight};
 ghost use Rattle.auction.specs.Refusals.{firstOf, Within};
+ghost use lib.ListN.{take};
 ghost use lib.Seq.{sets};
 ghost use Rattle.duality.specs.Lists.{cells};
-ghost use Rattle.auction.specs.Edges.{withinTest, orderTest, edgeChecks, edgesChecks, rowTo};
+ghost use Rattle.auction.specs.Edges.{withinTest, orderTest, edgeChecks, edgesChecks, rowTo, bufferEdges, emptyBuffer, pushed};
 
 // The edges of an arrival as two lists side by side: of each edge the item's number and the weight. Only the first `count` count, and 65 at most.
+#[repr(C)]
 pub struct EdgeBuffer {
     pub items: [u64; Auction::MAX_EDGES],
     pub weights: [u64; Auction::MAX_EDGES],
@@ -122,4 +125,54 @@ pub(crate) fn file_row(
         weights[from + k] = row[k];
         k += 1;
     }
+}
+
+// How many of so many edges are looked at.
+fn enough(count: usize) -> usize
+    ensures { λ r. ⌜ r ≡ min count maxEdges ⌝ }
+{
+    if count < Auction::MAX_EDGES {
+        return count;
+    }
+    Auction::MAX_EDGES
+}
+
+// No edges.
+fn empty_buffer() -> EdgeBuffer
+    ensures { λ r. ⌜ r ≡ emptyBuffer ⌝ }
+{
+    EdgeBuffer {
+        items: [0; Auction::MAX_EDGES],
+        weights: [0; Auction::MAX_EDGES],
+        count: 0,
+    }
+}
+
+// One edge more, where there is room.
+fn push(buffer: EdgeBuffer, edge: Edge) -> EdgeBuffer
+    ensures { λ r. ⌜ r ≡ pushed buffer edge ⌝ }
+{
+    if buffer.count >= Auction::MAX_EDGES as u64 {
+        return buffer;
+    }
+    let at = buffer.count as usize;
+    let mut next = buffer;
+    next.items[at] = edge.item;
+    next.weights[at] = edge.weight;
+    next.count = buffer.count + 1;
+    next
+}
+
+// The first edges of a slice, 65 at most: these decide every refusal.
+pub(crate) fn gather(edges: &[Edge]) -> EdgeBuffer
+    ensures { λ r. ⌜ bufferEdges r ≡ take maxEdges (now (edges .entry)) ⌝ }
+{
+    let count = enough(edges.len());
+    let mut buffer = empty_buffer();
+    let mut i: usize = 0;
+    while i < count {
+        buffer = push(buffer, edges[i]);
+        i += 1;
+    }
+    buffer
 }

@@ -23,7 +23,7 @@ ghost use Rattle.auction.specs.Cells.{joined};
 ghost use Rattle.auction.specs.Rule.{done};
 ghost use Rattle.auction.specs.Edges.{bufferEdges};
 ghost use Rattle.auction.specs.Calls.{opened, arriveOf, withdrawOf};
-ghost use Rattle.auction.specs.Replay.{pairsOf, entryOf, finished, stopped, afterArrival, afterWithdrawal, carryOut, linesFrom, replayOf};
+ghost use Rattle.auction.specs.Replay.{pairsOf, commandOf, finished, stopped, afterArrival, afterWithdrawal, carryOut, linesFrom, replayOf};
 ghost use Rattle.auction.specs.ReplayLaws.{replayed, ReachedBy};
 
 // How a replay ends: at the end of the text, or with a refusal at a line.
@@ -140,7 +140,7 @@ fn carry_out(
     n: u64,
 ) -> Progress
     requires { ⌜ ReachedBy (joined book (now weights)) bids ⌝ }
-    ensures { λ r. ⌜ done (replayed (joined (r .book) (now (weights .exit))) (r .bids) (r .answer)) ≡ carryOut finished n (joined book (now (weights .entry))) bids (entryOf line) ⌝ }
+    ensures { λ r. ⌜ done (replayed (joined (r .book) (now (weights .exit))) (r .bids) (r .answer)) ≡ carryOut finished n (joined book (now (weights .entry))) bids (commandOf line) ⌝ }
 {
     if is_record(line.letter, b'A', line.count % 2 == 0) {
         let edges = edges_of(&line.numbers, line.count);

@@ -1,3 +1,4 @@
 pub mod Skips
 pub mod Table
 pub mod Text
+pub mod FullBoard

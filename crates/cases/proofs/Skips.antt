@@ -20,18 +20,11 @@ use Rattle.auction.specs.Rule.{Outcome, done, spent}
 use Rattle.auction.specs.Refusals.{codeOf, firstOf, Check}
 use Rattle.auction.specs.Refusals as Refusals
 use Rattle.auction.specs.Calls.{Lists, slackTest, opened, openOf, arriveRest, arriveBy, arriveOf, withdrawRest, withdrawBy, withdrawOf, openChecks, openBy}
-use Rattle.certificate.specs.Check.{evenTest, checkChecks, checkBy, checkOf}
-use Rattle.certificate.specs.Lent.{listChecks}
+use Rattle.certificate.specs.Check.{evenTest, checkBy, checkOf, listChecks, checkRest}
 use Rattle.auction.proofs.SoundLaw.{sound-decides}
 use Rattle.auction.proofs.Demand2.{arrive-demand-2, withdraw-demand-2}
 use Rattle.auction.proofs.Opening.{opening-sound}
 use Rattle.cases.specs.Play.{Call, arrive, withdraw, check, afterCheck, Case, Seen, refusal, seen, played, withdrew, afterArrive, afterWithdraw, playAll, opening, play}
-
--- The check's own checks, after that of soundness
-unfoldable pub checkRest : Auction → Lists → ℕ → ℕ → List Check
-checkRest b l p q =
-    Refusals.check Slack (not (slackTest 0 p q)) ∷
-    (Refusals.check Uneven (not (evenTest (b .arrived) (b .items) (length (l .plan)) (length (l .prices)) (length (l .gains)))) ∷ listChecks b l p q)
 
 -- The calls without the test
 unfoldable pub skipAll : List Call → Auction → List ℕ → Seen
@@ -49,7 +42,7 @@ unfolding withdrawOf firstOf
 withdraw-skips b item s = let e = sound-decides b .complete s in rw e
 
 check-skips : (b : Auction) (l : Lists) (p q : ℕ) → Sound b → checkOf b l p q ≡ checkBy b l (firstOf (checkRest b l p q))
-unfolding checkOf checkChecks checkRest listChecks firstOf
+unfolding checkOf firstOf
 check-skips b l p q s = let e = sound-decides b .complete s in rw e
 
 module _ (rest : List Call) (ih : (b : Auction) (bids : List ℕ) → Sound b → playAll rest b bids ≡ skipAll rest b bids) where

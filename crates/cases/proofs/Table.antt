@@ -9,11 +9,10 @@ use Rattle.auction.specs.Edges.{withinTest, orderTest, edgeChecks, edgesChecks,
 use Rattle.auction.specs.Calls.{opened, slackTest, openBy, openOf, arriveRest, entered, arrivalOf, arrivedOf, arriveBy, withdrawRest, released, withdrawalOf, withdrawnOf, withdrawBy}
 use Rattle.duality.specs.Decide.{allBelow}
 use Rattle.duality.specs.Tests.{freshTest, cellTest}
-use Rattle.certificate.specs.Check.{evenTest, clashChecks, priceTest, priceChecks, gainChecks, rowTest, bareChecks, checkBy}
-use Rattle.certificate.specs.Lent.{listChecks}
+use Rattle.certificate.specs.Check.{evenTest, clashChecks, priceTest, priceChecks, gainChecks, rowTest, bareChecks, checkBy, listChecks, checkRest}
 use Rattle.cases.specs.Play.{Case, Seen, opening, afterCheck, afterArrive, afterWithdraw, played, withdrew, play}
 use Rattle.cases.specs.Table.{Row, table, Cases}
-use Rattle.cases.proofs.Skips.{checkRest, skipAll, skipOpening, skip, play-skips}
+use Rattle.cases.proofs.Skips.{skipAll, skipOpening, skip, play-skips}
 
 all-played : (rows : List Row) → map (λ r. play (r .case)) rows ≡ map (λ r. skip (r .case)) rows
 all-played [] = refl

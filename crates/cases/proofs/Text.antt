@@ -22,7 +22,7 @@ use Rattle.auction.specs.Rule.{Outcome, done, spent, offerOf, bestOf, placedAt,
 use Rattle.auction.specs.Edges.{withinTest, orderTest, edgeChecks, edgesChecks, rowTo}
 use Rattle.auction.specs.Refusals.{firstOf}
 use Rattle.auction.specs.Calls.{opened, slackTest, openBy, openOf, entered, arrivalOf, arrivedOf, arriveRest, arriveBy, arriveOf, withdrawRest, withdrawBy, withdrawOf}
-use Rattle.auction.specs.Replay.{pairsOf, Entry, opens, arrives, withdraws, malformed, entryOf, finished, afterArrived, afterArrival, afterWithdrawn, afterWithdrawal, carryOut, linesFrom, afterOpened, firstLine, replayOf}
+use Rattle.auction.specs.Replay.{pairsOf, Command, opens, arrives, withdraws, malformed, commandOf, finished, afterArrived, afterArrival, afterWithdrawn, afterWithdrawal, carryOut, linesFrom, afterOpened, firstLine, replayOf}
 use Rattle.auction.proofs.Demand2.{arrive-demand-2, withdraw-demand-2}
 use Rattle.history.specs.Output.{bidderLines, itemLines, outputOf}
 use Rattle.history.specs.Plan.{sheetOf, printedBy, printed}
@@ -31,7 +31,7 @@ use Rattle.cases.proofs.Skips.{arrive-skips, withdraw-skips, ready-soun
 use Rattle.cases.proofs.Table.{cases}
 
 -- The lines without the test
-unfoldable skipOut : (Auction → ℕ → Outcome Replayed) → ℕ → Auction → ℕ → Entry → Outcome Replayed
+unfoldable skipOut : (Auction → ℕ → Outcome Replayed) → ℕ → Auction → ℕ → Command → Outcome Replayed
 skipOut next n b bids (opens k p q) = carryOut next n b bids (opens k p q)
 skipOut next n b bids (arrives edges) = afterArrival next n bids (arriveBy b edges (firstOf (arriveRest b edges)))
 skipOut next n b bids (withdraws item) = afterWithdrawal next n bids (withdrawBy b item (firstOf (withdrawRest b item)))
@@ -41,7 +41,7 @@ unfoldable skipLines : ℕ → List ℕ → ℕ → ℕ → Auction → ℕ → 
 skipLines zero s at n b bids = spent
 skipLines (suc fuel) s at n b bids =
     cond (ltb at (length s))
-    (skipOut (λ c more. skipLines fuel s (lineAt s at .next) (n + 1) c more) n b bids (entryOf (lineAt s at)))
+    (skipOut (λ c more. skipLines fuel s (lineAt s at .next) (n + 1) c more) n b bids (commandOf (lineAt s at)))
     (finished b bids)
 
 module _ (next skip : Auction → ℕ → Outcome Replayed) (ih : (b : Auction) (bids : ℕ) → Sound b → next b bids ≡ skip b bids) where
@@ -67,7 +67,7 @@ module _ (next skip : Auction → ℕ → Outcome Replayed) (ih : (b : Auction) 
           ih (a .auction) (bids + k) (withdraw-demand-2 b (a .auction) item k f .after)
       go (Withdrawn.Refused r) h = refl
 
-  line-skips : (n : ℕ) (b : Auction) (bids : ℕ) → Sound b → (x : Entry) → carryOut next n b bids x ≡ skipOut skip n b bids x
+  line-skips : (n : ℕ) (b : Auction) (bids : ℕ) → Sound b → (x : Command) → carryOut next n b bids x ≡ skipOut skip n b bids x
   unfolding carryOut skipOut
   line-skips n b bids s (opens k p q) = refl
   line-skips n b bids s (arrives edges) = arrivals n b bids edges _ refl ∙ ap (afterArrival skip n bids) (arrive-skips b edges s)
@@ -80,10 +80,10 @@ lines-skip zero s at n b bids sound = refl
 lines-skip (suc fuel) s at n b bids sound =
     ap (λ x. cond (ltb at (length s)) x (finished b bids))
     (line-skips (λ c more. linesFrom fuel s (lineAt s at .next) (n + 1) c more) (λ c more. skipLines fuel s (lineAt s at .next) (n + 1) c more)
-    (λ c more. lines-skip fuel s (lineAt s at .next) (n + 1) c more) n b bids sound (entryOf (lineAt s at)))
+    (λ c more. lines-skip fuel s (lineAt s at .next) (n + 1) c more) n b bids sound (commandOf (lineAt s at)))
 
 opened-1 : replayOf text1 ≡ linesFrom (suc (length text1)) text1 9 2 (openOf 2 1 10 .auction) 0
-unfolding replayOf firstLine afterOpened entryOf lineAt fieldsAt fieldAt openOf openBy slackTest withinTest firstOf
+unfolding replayOf firstLine afterOpened commandOf lineAt fieldsAt fieldAt openOf openBy slackTest withinTest firstOf
 opened-1 = refl
 
 sound-1 : Sound (openOf 2 1 10 .auction)
@@ -92,7 +92,7 @@ sound-1 = ready-sound 2 1 10 refl
 
 computed-1 : printed (skipLines (suc (length text1)) text1 9 2 (openOf 2 1 10 .auction) 0) ≡ printed1
 unfolding
-    skipLines skipOut lineAt fieldsAt fieldAt entryOf pairsOf afterArrival afterArrived printed printedBy outputOf bidderLines itemLines decimal
+    skipLines skipOut lineAt fieldsAt fieldAt commandOf pairsOf afterArrival afterArrived printed printedBy outputOf bidderLines itemLines decimal
     heldBy edgeCount offerOf bestOf placedAt displaced handOver bidOf settleOf firstOf withinTest orderTest edgeChecks edgesChecks rowTo
     opened slackTest openBy openOf arriveRest entered arrivalOf arrivedOf arriveBy
 computed-1 = refl

@@ -2,3 +2,4 @@
 pub mod Play
 pub mod Table
 pub mod Text
+pub mod FullBoard

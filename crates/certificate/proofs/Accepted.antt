@@ -12,9 +12,8 @@ use Rattle.auction.specs.Calls.{Lists}
 use Rattle.auction.proofs.Tests.{slack-decides}
 use Rattle.auction.proofs.SoundLaw.{sound-decides}
 use Rattle.auction.proofs.Verdicts.{first-on}
-use Rattle.certificate.specs.Check.{Even, checkChecks, checkBy, checkOf}
+use Rattle.certificate.specs.Check.{Even, checkChecks, checkBy, checkOf, listChecks, checkRest}
 use Rattle.certificate.specs.Accepted.{Accepted, TotalsAccepted, AcceptedTotals}
-use Rattle.certificate.specs.Lent.{listChecks}
 use Rattle.certificate.proofs.Places.{served-next, next-serves, served-both}
 use Rattle.certificate.proofs.Served.{clash-served, price-served, gain-served, bare-served}
 use Rattle.certificate.proofs.Tests.{lists-even}
@@ -48,7 +47,7 @@ module _ (b : Auction) (l : Lists) (p q : ℕ) where
       }
 
   accepted : firstOf (checkChecks b l p q) ≡ Served → Accepted b l p q
-  unfolding checkChecks listChecks
+  unfolding checkRest listChecks
   accepted e =
       let (sound, e₁) = served-next _ _ _ e in
       let (slack, e₂) = served-next _ _ _ e₁ in
@@ -56,7 +55,7 @@ module _ (b : Auction) (l : Lists) (p q : ℕ) where
       lists-accepted (sound-decides b .sound sound) (slack-decides 0 p q .sound slack) (lists-even b l .sound even) e₃
 
   served : Accepted b l p q → firstOf (checkChecks b l p q) ≡ Served
-  unfolding checkChecks
+  unfolding checkRest listChecks
   served a =
       next-serves _ _ _ (sound-decides b .complete (a .sound))
       (next-serves _ _ _ (slack-decides 0 p q .complete (a .slack))

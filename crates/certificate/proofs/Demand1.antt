@@ -22,8 +22,8 @@ use Rattle.auction.proofs.Tests.{no-decides, slack-decides}
 use Rattle.auction.proofs.SoundLaw.{sound-decides}
 use Rattle.auction.proofs.Verdicts.{Decided, next, decided-append, demand-1}
 use Rattle.certificate.specs.declared.Checked.{Checked}
-use Rattle.certificate.specs.Limits.{maxPrice}
-use Rattle.certificate.specs.Check.{Even, Clashes, PriceBad, Uncovered, CheckMet, clashChecks, priceTest, priceChecks, gainChecks, rowTest, bareChecks, checkChecks, checkBy, checkOf}
+use Rattle.auction.specs.Limits.{maxPrice}
+use Rattle.certificate.specs.Check.{listChecks, Even, Clashes, PriceBad, Uncovered, CheckMet, clashChecks, priceTest, priceChecks, gainChecks, rowTest, bareChecks, checkChecks, checkBy, checkOf, checkRest}
 use Rattle.certificate.specs.Demand1.{CheckDemand1}
 use Rattle.certificate.proofs.Fails.{Fails, Somewhere, not-fails, refail, fail-lt, fail-le, fail-eq, fail-not, fail-and, fail-or, fail-all}
 use Rattle.certificate.proofs.Places.{each-decided, clash-each, price-each, gain-each, bare-each}
@@ -177,7 +177,7 @@ module _ (b : Auction) (l : Lists) (p q : ℕ) where
       (λ i h. reword (not-fails (bare-fails b p q (cells (l .prices)) (cells (l .gains)) i)) (λ x. CheckMet.bare x) (bare-met i)))
 
   check-decided : Decided (CheckMet b l p q) (checkChecks b l p q)
-  unfolding checkChecks
+  unfolding checkRest listChecks
   check-decided =
       next (reword (no-decides (sound-decides b)) (λ f. CheckMet.spoilt f) unsound)
       (next (reword (no-decides (slack-decides 0 p q)) (λ f. CheckMet.slack f) slack-met)

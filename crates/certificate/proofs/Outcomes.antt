@@ -22,8 +22,7 @@ use Rattle.auction.specs.Refusals.{Check, firstOf}
 use Rattle.auction.specs.Calls.{slackTest, Lists}
 use Rattle.auction.proofs.Verdicts.{first-on, first-stops}
 use Rattle.certificate.specs.declared.Checked.{Checked}
-use Rattle.certificate.specs.Check.{evenTest, checkChecks, checkBy, checkOf}
-use Rattle.certificate.specs.Lent.{listChecks}
+use Rattle.certificate.specs.Check.{evenTest, checkBy, checkOf, listChecks, checkRest}
 
 -- A verdict on the first of two lists of checks stands, or leaves it to the second
 pub stops : (xs ys : List Check) (v : Verdict) (r : Refusal) → v ≡ firstOf xs → v ≡ Refused r → v ≡ firstOf (xs ++ ys)
@@ -41,22 +40,22 @@ module _ (b : Auction) (l : Lists) where
 
   module _ (p q : ℕ) where
     pub check-spoilt : soundTest b ≡ false → Checked.Refused Spoilt ≡ checkOf b l p q
-    unfolding checkOf checkBy checkChecks firstOf
+    unfolding checkOf checkBy checkRest listChecks firstOf
     check-spoilt e = rw e
 
     module _ (s : soundTest b ≡ true) where
       pub check-slack : slackTest 0 p q ≡ false → Checked.Refused Slack ≡ checkOf b l p q
-      unfolding checkOf checkBy checkChecks firstOf
+      unfolding checkOf checkBy checkRest listChecks firstOf
       check-slack e = rw (s, e)
 
       module _ (t : slackTest 0 p q ≡ true) where
         pub check-uneven : evenTest (b .arrived) (b .items) (length (l .plan)) (length (l .prices)) (length (l .gains)) ≡ false → Checked.Refused Uneven ≡ checkOf b l p q
-        unfolding checkOf checkBy checkChecks firstOf
+        unfolding checkOf checkBy checkRest listChecks firstOf
         check-uneven e = rw (s, t, e)
 
         pub check-lists : evenTest (b .arrived) (b .items) (length (l .plan)) (length (l .prices)) (length (l .gains)) ≡ true →
             checkBy b l (firstOf (listChecks b l p q)) ≡ checkOf b l p q
-        unfolding checkOf checkChecks listChecks firstOf
+        unfolding checkOf checkRest listChecks firstOf
         check-lists e = rw (s, t, e)
 
   pub lists-refused : (v : Verdict) (r : Refusal) → v ≡ Refused r → Checked.Refused r ≡ checkBy b l v

@@ -19,7 +19,7 @@ use Rattle.auction.specs.declared.refusal.Verdict.the-variants.{Served, Refused
 use Rattle.auction.specs.Live.{live}
 use Rattle.auction.specs.Refusals.{Check, check, firstOf}
 use Rattle.auction.proofs.Verdicts.{Decided, ends, next, first-on, first-stops}
-use Rattle.certificate.specs.Limits.{maxPrice}
+use Rattle.auction.specs.Limits.{maxPrice}
 use Rattle.certificate.specs.Check.{clashChecks, priceTest, priceChecks, gainChecks, rowTest, bareChecks}
 
 -- Of n places from i on, the refusal of each where its test fails

@@ -14,7 +14,7 @@ use Rattle.auction.specs.declared.refusal.Verdict.the-variants.{Served}
 use Rattle.auction.specs.Cells.{withdrawnAt}
 use Rattle.auction.specs.Live.{live}
 use Rattle.auction.specs.Refusals.{firstOf}
-use Rattle.certificate.specs.Limits.{maxPrice}
+use Rattle.auction.specs.Limits.{maxPrice}
 use Rattle.certificate.specs.Check.{clashChecks, priceTest, priceChecks, gainChecks, rowTest, bareChecks}
 use Rattle.certificate.proofs.Places.{each-all, clash-each, price-each, gain-each, bare-each}
 use Rattle.certificate.proofs.Tests.{price-decides}

@@ -11,7 +11,7 @@ use Rattle.duality.specs.Tests.{freshTest, cellTest}
 use Rattle.duality.proofs.Decide.{reword, eq-decides, le-decides, and-decides, or-decides}
 use Rattle.auction.specs.declared.board.Auction.{Auction}
 use Rattle.auction.specs.Calls.{Lists}
-use Rattle.certificate.specs.Limits.{maxPrice}
+use Rattle.auction.specs.Limits.{maxPrice}
 use Rattle.certificate.specs.Check.{Even, evenTest}
 
 -- A cell per bidder, per item, per bidder, and no more

@@ -13,7 +13,7 @@ use Rattle.auction.specs.Live.{live}
 use Rattle.auction.specs.Sound.{Sound, SlackIn}
 use Rattle.auction.specs.Calls.{Lists}
 use Rattle.certificate.specs.declared.Checked.{Checked}
-use Rattle.certificate.specs.Limits.{maxPrice}
+use Rattle.auction.specs.Limits.{maxPrice}
 use Rattle.certificate.specs.Check.{Even, checkOf}
 
 -- "The check takes a sound board, a plan, a price and a gain list of exact length, and a slack, here with p from 0"

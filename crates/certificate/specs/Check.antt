@@ -21,7 +21,7 @@ use Rattle.auction.specs.SoundTest.{soundTest}
 use Rattle.auction.specs.Refusals.{Check, check, firstOf}
 use Rattle.auction.specs.Calls.{slackTest, Lists}
 use Rattle.certificate.specs.declared.Checked.{Checked}
-use Rattle.certificate.specs.Limits.{maxPrice}
+use Rattle.auction.specs.Limits.{maxPrice}
 
 -- ---- The rows of the table, in its words. The lists are read by cell: bidder i + 1 is cell i, item k + 1 is cell k.
 
@@ -92,15 +92,23 @@ unfoldable pub bareChecks : Auction → ℕ → ℕ → (ℕ → ℕ) → (ℕ �
 bareChecks b p q prices gains i zero = []
 bareChecks b p q prices gains i (suc n) = check (Bare (suc i)) (not (rowTest b p q prices gains i)) ∷ bareChecks b p q prices gains (suc i) n
 
-unfoldable pub checkChecks : Auction → Lists → ℕ → ℕ → List Check
-checkChecks b l p q =
-    check Spoilt (not (soundTest b)) ∷
-    (check Slack (not (slackTest 0 p q)) ∷
-    (check Uneven (not (evenTest (b .arrived) (b .items) (length (l .plan)) (length (l .prices)) (length (l .gains)))) ∷
-    (clashChecks b (cells (l .plan)) 0 (b .arrived) ++
+-- The lists themselves: "10, 11, 12"
+unfoldable pub listChecks : Auction → Lists → ℕ → ℕ → List Check
+listChecks b l p q =
+    clashChecks b (cells (l .plan)) 0 (b .arrived) ++
     (priceChecks b (cells (l .prices)) 0 (b .items) ++
     (gainChecks (b .items) (cells (l .gains)) 0 (b .arrived) ++
-    bareChecks b p q (cells (l .prices)) (cells (l .gains)) 0 (b .arrived))))))
+    bareChecks b p q (cells (l .prices)) (cells (l .gains)) 0 (b .arrived)))
+
+-- The checks after that of soundness, and all
+unfoldable pub checkRest : Auction → Lists → ℕ → ℕ → List Check
+checkRest b l p q =
+    check Slack (not (slackTest 0 p q)) ∷
+    (check Uneven (not (evenTest (b .arrived) (b .items) (length (l .plan)) (length (l .prices)) (length (l .gains)))) ∷
+    listChecks b l p q)
+
+abbrev pub checkChecks : Auction → Lists → ℕ → ℕ → List Check
+checkChecks b l p q = check Spoilt (not (soundTest b)) ∷ checkRest b l p q
 
 -- ---- "It answers the plan's worth and the sum of prices and gains"
 

@@ -15,14 +15,10 @@ ghost use Rattle.duality.specs.Decide.{allBelow};
 ghost use Rattle.duality.specs.Lists.{cells};
 ghost use Rattle.duality.specs.Sums.{sumTo};
 ghost use Rattle.auction.specs.declared.board.Auction.{Auction as Board};
-ghost use Rattle.auction.specs.Limits.{maxItems, maxBidders, maxQ};
+ghost use Rattle.auction.specs.Limits.{maxItems, maxBidders, maxQ, maxPrice};
 ghost use Rattle.auction.specs.Refusals.{firstOf};
-ghost use Rattle.certificate.specs.Limits.{maxPrice};
 ghost use Rattle.certificate.specs.Check.{priceChecks, gainChecks, bareChecks};
 ghost use Rattle.certificate.specs.Lent.{lent, liveOf};
-
-// The most that a price or a gain may be.
-const MAX_PRICE: u64 = 1000000000;
 
 // An item's price: within the limit, and 0 where the item is withdrawn.
 fn price_holds(price: u64, withdrawn: bool) -> bool
@@ -31,7 +27,7 @@ fn price_holds(price: u64, withdrawn: bool) -> bool
     if withdrawn {
         return price == 0;
     }
-    price <= MAX_PRICE
+    price <= Auction::MAX_PRICE
 }
 
 // Refusal 11 at an item: the first whose price does not hold.
@@ -56,7 +52,7 @@ pub(crate) fn gains_verdict(items: u64, gains: &[u64]) -> Verdict
 {
     let mut i: usize = 0;
     while i < gains.len() {
-        if gains[i] > MAX_PRICE {
+        if gains[i] > Auction::MAX_PRICE {
             return Verdict::Refused(Refusal::Price(items + (i as u64 + 1)));
         }
         i += 1;
@@ -64,7 +60,7 @@ pub(crate) fn gains_verdict(items: u64, gains: &[u64]) -> Verdict
     Verdict::Served
 }
 
-// q - p times a weight: what gain and price must cover. The two units meet here alone.
+// q - p times a weight: what gain and price must cover. The two units meet here alone in this crate.
 fn least(slack: Slack, weight: Pence) -> Scaled
     requires { ⌜ (slack .p < slack .q) × (slack .q ≤ maxQ) × (weight .0 < 4294967296) ⌝ }
     ensures { λ r. ⌜ r .0 ≡ (slack .q - slack .p) * weight .0 ⌝ }

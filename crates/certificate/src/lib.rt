@@ -24,8 +24,8 @@ ghost use Rattle.auction.specs.declared.board.Auction.{Auction as Board};
 ghost use Rattle.auction.specs.Limits.{maxItems, maxBidders, maxQ};
 ghost use Rattle.auction.specs.Refusals.{firstOf};
 ghost use Rattle.auction.specs.Calls.{lists};
-ghost use Rattle.certificate.specs.Check.{evenTest, checkOf};
-ghost use Rattle.certificate.specs.Lent.{lent, listChecks};
+ghost use Rattle.certificate.specs.Check.{evenTest, checkOf, listChecks};
+ghost use Rattle.certificate.specs.Lent.{lent};
 
 // The matching's weight, and the sum of prices and gains; or the refusal.
 pub enum Checked {

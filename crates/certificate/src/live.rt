@@ -1,11 +1,17 @@
 // The live edges of a board, of which the weights and the withdrawn items are lent.
 use auction::board::Auction;
 use auction::board::Pence;
-use auction::board::weight_in;
 ghost use mathlib.Core.Path.{_≡_};
 ghost use Prim.Native.Nat.{_<_};
 ghost use Rattle.auction.specs.Limits.{maxItems, maxBidders};
 ghost use Rattle.certificate.specs.Lent.{liveOf};
+
+// The weight in a row's cell.
+fn weight_in(cell: u32) -> Pence
+    ensures { λ r. ⌜ (r .0 ≡ cell) × (r .0 < 4294967296) ⌝ }
+{
+    Pence(cell as u64)
+}
 
 // The weight of the live edge between a bidder and an item, 0 where there is none.
 pub(crate) fn live_weight<'a>(

@@ -45,9 +45,6 @@ module _ {n a k x : ℕ} {matching : ℕ → ℕ} (la : a < n) (away : matching 
   pub swap-ne : x ≢ a
   swap-ne e = omega (arith, h .held (rw e la), ap matching e)
 
-  pub swap-x : swapped a k x matching x ≡ 0
-  swap-x = upd-other a (suc k) _ x swap-ne ∙ upd-same x 0 matching
-
   -- Who holds an item afterwards: a holds item k + 1, and any other what it held, which is another item
   abbrev View : ℕ → ℕ → Type 0
   View i j = ((i ≡ a) × (j ≡ k)) ⊎ ((i ≢ a) × (i ≢ x) × (j ≢ k) × (matching i ≡ suc j))

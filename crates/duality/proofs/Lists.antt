@@ -14,10 +14,6 @@ pub sum-cells : (l : List ℕ) → sumTo (length l) (cells l) ≡ sum l
 sum-cells [] = refl
 sum-cells (x ∷ xs) = sumTo-head (length xs) (cells (x ∷ xs)) ∙ ap (λ z. x + z) (sum-cells xs)
 
--- A store into a list changes its cells at one place
-pub cells-set : (l : List ℕ) (i v : ℕ) → i < length l → cells (set l i v) ≡ upd i v (cells l)
-cells-set l i v h = fun-ext (upd-all (λ j u. cells (set l i v) j ≡ u) i v (cells l) (getD-set-same l i v 0 h) (λ j ne. getD-set-other l i j v 0 ne))
-
 -- The first n values of f, as a list
 abbrev pub tab : ℕ → (ℕ → ℕ) → List ℕ
 tab zero f = []

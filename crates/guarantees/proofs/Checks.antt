@@ -19,7 +19,7 @@ use Rattle.auction.specs.declared.board.Auction.{Auction}
 use Rattle.auction.specs.declared.board.Pence.{Pence}
 use Rattle.auction.specs.declared.board.Scaled.{Scaled}
 use Rattle.auction.specs.declared.calls.ReadOut.{ReadOut}
-use Rattle.auction.specs.Limits.{maxWeight}
+use Rattle.auction.specs.Limits.{maxWeight, maxPrice}
 use Rattle.auction.specs.Cells.{pence, scaled, priceAt, gainAt}
 use Rattle.auction.specs.Live.{live, matchingOf}
 use Rattle.auction.specs.Sound.{Sound}
@@ -36,7 +36,6 @@ use Rattle.hungarian.proofs.Exacts.{best-on, exact-is-best}
 use Rattle.certificate.specs.declared.Checked.{Checked}
 use Rattle.certificate.specs.Check.{Even, checkOf}
 use Rattle.certificate.specs.Accepted.{Accepted}
-use Rattle.certificate.specs.Limits.{maxPrice}
 use Rattle.certificate.proofs.Accepted.{totals-accepted, accepted-totals}
 use Rattle.guarantees.specs.Checks.{cut, ExactAccepted, EqualTotalsBest, ReadOutAccepted}
 use Rattle.guarantees.proofs.Modest.{Modest, live-light, reached-modest}

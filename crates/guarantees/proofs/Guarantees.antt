@@ -1,5 +1,6 @@
 -- The page, by citing the crates below.
 use mathlib.Core.Path.{_≡_}
+use Rattle.auction.proofs.Verdicts.{codes-apart}
 use Rattle.auction.proofs.Demand1.{open-demand-1, arrive-demand-1, withdraw-demand-1, read-out-demand-1}
 use Rattle.auction.proofs.Demand2.{arrive-ends, withdraw-ends, arrive-demand-2, withdraw-demand-2, sound-demand-2}
 use Rattle.auction.proofs.ReadOuts.{read-out-demand-2}
@@ -19,6 +20,7 @@ demand-1 =
       reads = read-out-demand-1;
       exact = exact-demand-1;
       checks = check-demand-1;
+      numbers = codes-apart;
       arrive-ends = arrive-ends;
       withdraw-ends = withdraw-ends;
       replay-ends = replay-ends;

@@ -11,7 +11,7 @@ use lib.ListN.{length, getD, set, take, drop, replicate, length-take, List·getD
 use Rattle.duality.specs.Steps.{utility, Open}
 use Rattle.auction.specs.declared.board.Auction.{Auction}
 use Rattle.auction.specs.declared.board.Scaled.{Scaled}
-use Rattle.auction.specs.Limits.{maxItems, maxBidders, maxWeight, maxQ}
+use Rattle.auction.specs.Limits.{maxItems, maxBidders, maxWeight, maxQ, maxPrice}
 use Rattle.auction.specs.Cells.{scaled, scaledAt, priceAt, gainAt, rowAt, rowIn}
 use Rattle.auction.specs.Live.{live}
 use Rattle.auction.specs.Sound.{Sound}
@@ -22,7 +22,6 @@ use Rattle.auction.specs.Histories.{Reached, opens, arrives, withdraws}
 use Rattle.auction.proofs.Filed.{row-cell}
 use Rattle.auction.proofs.LiveLaws.{weighed-edges}
 use Rattle.auction.proofs.Demand2.{rowOf, arrive-all, withdraw-all}
-use Rattle.certificate.specs.Limits.{maxPrice}
 
 pub record Modest (b : Auction) : Type 0 where
   pub prices : (k : ℕ) → priceAt b k ≤ maxPrice

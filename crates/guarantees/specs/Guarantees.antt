@@ -3,6 +3,7 @@ use mathlib.Core.Path.{_≡_}
 use Rattle.auction.specs.declared.board.Auction.{Auction}
 use Rattle.auction.specs.Sound.{Sound}
 use Rattle.auction.specs.Calls.{Lists}
+use Rattle.auction.specs.Refusals.{CodesApart}
 use Rattle.auction.specs.Demand1.{OpenDemand1, ArriveDemand1, WithdrawDemand1, ReadOutDemand1}
 use Rattle.auction.specs.Demand2.{ArriveEnds, WithdrawEnds, ArriveDemand2, WithdrawDemand2, SoundDemand2, ReadOutDemand2}
 use Rattle.auction.specs.Histories.{HistoryDemand2}
@@ -22,6 +23,8 @@ pub record TableFirst : Type 0 where
   pub reads : ReadOutDemand1
   pub exact : ExactDemand1
   pub checks : CheckDemand1
+  -- "A refusal returns number and place": no two refusals have both in common, so that they name one row
+  pub numbers : CodesApart
   -- "Every call ends"
   pub arrive-ends : ArriveEnds
   pub withdraw-ends : WithdrawEnds

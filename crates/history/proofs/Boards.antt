@@ -32,7 +32,7 @@ use Rattle.auction.proofs.Written.{written-length}
 use Rattle.auction.proofs.LiveLaws.{weighed-edges}
 use Rattle.auction.proofs.Demand2.{sound-demand-2}
 use Rattle.history.specs.Figures.{ReadFrom}
-use Rattle.history.specs.Output.{bidderLines, itemLines, lastLines, flags, worthOf, sumOf, outputOf}
+use Rattle.history.specs.Output.{bidderLines, itemLines, lastLines, flags, matchingWeight, sumOf, outputOf}
 use Rattle.history.proofs.Outputs.{bidders-same, items-same}
 
 -- ---- Sums
@@ -66,10 +66,10 @@ module _ (b : Auction) (s : Sound b) where
       go i l zero e = omega arith
       go i l (suc k) e = cond-most (withdrawnAt b k) (getD (rowAt b i) k 0) maxWeight (weighed-edges (rowAt b i) (b .items) (s .weights i l) k (matches .along i k l e .0))
 
-  pub weight-most : worthOf b ≤ maxBidders * maxWeight
+  pub weight-most : matchingWeight b ≤ maxBidders * maxWeight
   weight-most = weight-any (matchingOf b) (s .matches)
 
-  pub sum-is : sumOf b ≡ (b .slack .q + b .slack .p) * worthOf b
+  pub sum-is : sumOf b ≡ (b .slack .q + b .slack .p) * matchingWeight b
   sum-is = sound-demand-2 b s .sum
 
   pub sum-most-is : sumOf b ≤ 2 * maxQ * (maxBidders * maxWeight)
@@ -81,10 +81,10 @@ module _ (b : Auction) (s : Sound b) where
   slack-some = omega (arith, s .slack .low)
 
   -- the weight from the sum
-  pub weight-from : sumOf b / (b .slack .q + b .slack .p) ≡ worthOf b
+  pub weight-from : sumOf b / (b .slack .q + b .slack .p) ≡ matchingWeight b
   weight-from =
-      ap (λ (x : ℕ). x / (b .slack .q + b .slack .p)) (sum-is ∙ mul-comm (b .slack .q + b .slack .p) (worthOf b))
-      ∙ mul-div-cancel (worthOf b) slack-some
+      ap (λ (x : ℕ). x / (b .slack .q + b .slack .p)) (sum-is ∙ mul-comm (b .slack .q + b .slack .p) (matchingWeight b))
+      ∙ mul-div-cancel (matchingWeight b) slack-some
 
   -- ---- What was read
 
@@ -98,7 +98,7 @@ module _ (b : Auction) (s : Sound b) where
     sums-fit = omega (arith, sum-read, sum-most-is)
 
     -- the lines of what was read are the board's output
-    pub output-read : (sum weight greatest bids : ℕ) → sum ≡ sumOf b → weight ≡ worthOf b → greatest ≡ greatestOn b →
+    pub output-read : (sum weight greatest bids : ℕ) → sum ≡ sumOf b → weight ≡ matchingWeight b → greatest ≡ greatestOn b →
         bidderLines (cells plan) (cells gains) (b .arrived) ++ (itemLines (flags (b .withdrawn)) (cells prices) (b .items) ++ lastLines weight sum bids greatest) ≡ outputOf b bids
     unfolding outputOf
     output-read sum weight greatest bids e f g =

@@ -22,7 +22,7 @@ use Rattle.auction.proofs.ReplayLines.{bids-fit}
 use Rattle.auction.proofs.ReplayLaws.{replay-ends, replay-reached}
 use Rattle.hungarian.specs.Exact.{greatestOn}
 use Rattle.history.specs.Limits.{maxOutput}
-use Rattle.history.specs.Output.{bidderLines, itemLine, itemLines, worthOf, sumOf, outputOf}
+use Rattle.history.specs.Output.{bidderLines, itemLine, itemLines, matchingWeight, sumOf, outputOf}
 use Rattle.history.specs.Plan.{planFrom, planOf}
 use Rattle.history.specs.Laws.{PlanEnds, OutputFits, AcceptedIsWritten, PrintedFigures}
 use Rattle.history.proofs.Boards.{weight-most, weight-any, sum-is, sum-most-is}
@@ -85,7 +85,7 @@ output-length b bids s w =
       arith,
       bidders-length (b .arrived) (matchingOf b) (gainAt b) (s .arrived) (λ i l. (matched-wide b s i l, gains i l)),
       items-length (b .items) (withdrawnAt b) (priceAt b) (s .items .1) prices,
-      three-fields 84 (worthOf b) (sumOf b) bids (omega (arith, weight-most b s)) (omega arith) w,
+      three-fields 84 (matchingWeight b) (sumOf b) bids (omega (arith, weight-most b s)) (omega arith) w,
       one-field 69 (greatestOn b) (omega (arith, greatest-most b s)),
       s .arrived,
       s .items .1,
@@ -110,7 +110,7 @@ printed-figures s r (e, f) =
     let g = greatest-weight (b .arrived) (b .items) (live b) .attained in
     record {
       sum = sum-is b (d .sound);
-      share = subst (λ (x : ℕ). (b .slack .q - b .slack .p) * x ≤ (b .slack .q + b .slack .p) * worthOf b) (g .2) (sound-demand-2 b (d .sound) .share (g .0) (g .1));
+      share = subst (λ (x : ℕ). (b .slack .q - b .slack .p) * x ≤ (b .slack .q + b .slack .p) * matchingWeight b) (g .2) (sound-demand-2 b (d .sound) .share (g .0) (g .1));
       edges = h .0;
       reached = h .1;
       few = d .bids;

@@ -13,7 +13,7 @@ use Rattle.auction.specs.Replay.{replayOf}
 use Rattle.hungarian.specs.Exact.{greatestOn}
 use Rattle.history.specs.declared.planning.Planned.{Planned}
 use Rattle.history.specs.Limits.{maxOutput}
-use Rattle.history.specs.Output.{worthOf, sumOf, outputOf}
+use Rattle.history.specs.Output.{matchingWeight, sumOf, outputOf}
 use Rattle.history.specs.Plan.{PlanOutcome, outcome, planOf}
 
 -- A text is accepted: it was replayed to its end, to a board with so many bids in all
@@ -37,9 +37,9 @@ AcceptedIsWritten =
 -- The printed figures of a board that a history of so many bids reaches
 pub record FiguresHold (b : Auction) (bids : ℕ) : Type 0 where
   -- "Prices plus gains = (q + p) × worth"
-  pub sum : sumOf b ≡ (b .slack .q + b .slack .p) * worthOf b
+  pub sum : sumOf b ≡ (b .slack .q + b .slack .p) * matchingWeight b
   -- "worth × (q + p) ≥ (q - p) × any plan's worth", so of the greatest
-  pub share : (b .slack .q - b .slack .p) * greatestOn b ≤ (b .slack .q + b .slack .p) * worthOf b
+  pub share : (b .slack .q - b .slack .p) * greatestOn b ≤ (b .slack .q + b .slack .p) * matchingWeight b
   -- "the bids number at most the entries ever accepted times the whole part of (q - 1)/p"
   pub edges : ℕ
   pub reached : Reached b edges bids

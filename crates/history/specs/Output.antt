@@ -37,8 +37,8 @@ lastLines weight sum bids greatest = lineOf 84 (weight ∷ sum ∷ bids ∷ []) 
 
 -- the figures of a board: the weight of its plan, and the sum of its prices and gains. The greatest weight of any plan is greatestOn: duality's
 -- plain count over the live edges
-abbrev pub worthOf : Auction → ℕ
-worthOf b = weightOf (b .arrived) (live b) (matchingOf b)
+abbrev pub matchingWeight : Auction → ℕ
+matchingWeight b = weightOf (b .arrived) (live b) (matchingOf b)
 
 abbrev pub sumOf : Auction → ℕ
 sumOf b = total (b .arrived) (b .items) (priceAt b) (gainAt b)
@@ -49,7 +49,7 @@ unfoldable pub outputOf : Auction → ℕ → List ℕ
 outputOf b bids =
     bidderLines (matchingOf b) (gainAt b) (b .arrived)
     ++ (itemLines (withdrawnAt b) (priceAt b) (b .items)
-    ++ lastLines (worthOf b) (sumOf b) bids (greatestOn b))
+    ++ lastLines (matchingWeight b) (sumOf b) bids (greatestOn b))
 
 -- "A refused text prints only `R`, number, line"
 abbrev pub refusalLine : ℕ → ℕ → List ℕ

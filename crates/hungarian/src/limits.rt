@@ -9,7 +9,7 @@ pub(crate) const BIDDERS: usize = Auction::MAX_BIDDERS;
 pub(crate) const WEIGHTS: usize = Auction::MAX_CELLS;
 
 // In pence.
-pub(crate) const MAX_WEIGHT: u32 = 1000000;
+pub(crate) const MAX_WEIGHT: u32 = Auction::MAX_WEIGHT as u32;
 
 // The excess of an item to which no edge has been looked at: more than any gain.
 pub(crate) const UNREACHED: u32 = MAX_WEIGHT + 1;

@@ -1,10 +1,11 @@
 // The sheet program: a history text from standard input, its plan or its refusal to standard output.
+use auction::board::Auction;
 use history::planning::MAX_OUTPUT;
 use libc::STDIN_FILENO;
 use libc::STDOUT_FILENO;
 
 // One byte more than a text may have: so many show that it is too long.
-const MAX_READ: usize = 65537;
+const MAX_READ: usize = Auction::MAX_TEXT + 1;
 
 // Whether the input was read as far as is wanted: n bytes, all that there is room for or up to its end, where a further read gives none.
 fn is_read(n: usize) -> bool {

@@ -3,3 +3,4 @@ pub mod Forms
 pub mod Lines
 pub mod Numbers
 pub mod Puts
+pub mod Readers

@@ -4,3 +4,4 @@ pub mod Limits
 pub mod Line
 pub mod Number
 pub mod Print
+pub mod Reader

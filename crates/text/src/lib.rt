@@ -1,6 +1,7 @@
 // Fields, numbers and lines of a text, and the printing of numbers and lines.
 pub mod line;
 pub mod print;
+pub mod reader;
 pub mod scan;
 
 // What parts the fields of a line, and what closes it.

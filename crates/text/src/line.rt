@@ -4,6 +4,7 @@ ghost use lib.ListN.{set};
 ghost use Rattle.text.specs.Line.{badLine, fieldsAt, lineWith, LineRead};
 use crate::NEWLINE;
 use crate::TAB;
+use crate::reader;
 use crate::scan;
 use crate::scan::Field;
 
@@ -60,7 +61,7 @@ fn fields_at(text: &[u8], at: usize, letter: u8) -> Line
         if byte != TAB {
             return bad_line();
         }
-        let field = scan::field_at(text, i + 1);
+        let field = reader::take_at(text, i + 1);
         let Field::Number(number, next) = field else {
             return bad_line();
         };

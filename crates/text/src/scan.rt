@@ -56,7 +56,7 @@ fn is_number(first: u8, count: usize) -> bool
 }
 
 // The number at a position: all the digits that stand together there.
-pub fn field_at(text: &[u8], at: usize) -> Field
+pub(crate) fn field_at(text: &[u8], at: usize) -> Field
     ensures { λ r. ⌜ r ≡ fieldAt (now (text .entry)) at ⌝ }
 {
     let first = byte_at(text, at);

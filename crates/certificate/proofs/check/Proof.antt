@@ -14,9 +14,8 @@ use Rattle.auction.specs.Refusals.{Check, firstOf}
 use Rattle.auction.specs.Calls.{Lists, lists, slackTest}
 use Rattle.auction.proofs.Tests.{slack-decides}
 use Rattle.auction.proofs.SoundLaw.{sound-decides}
-use Rattle.certificate.specs.Check.{Even, evenTest, checkBy, checkOf}
+use Rattle.certificate.specs.Check.{Even, evenTest, checkBy, checkOf, listChecks}
 use Rattle.certificate.specs.Accepted.{Accepted}
-use Rattle.certificate.specs.Lent.{listChecks}
 use Rattle.certificate.proofs.Tests.{lists-even}
 use Rattle.certificate.proofs.Outcomes.{check-spoilt, check-slack, check-uneven, check-lists, lists-refused, lists-served}
 use Rattle.certificate.proofs.Accepted.{cell-within, lists-accepted}

@@ -8,8 +8,8 @@ use Rattle.auction.specs.declared.board.Auction.{Auction}
 use Rattle.auction.specs.declared.refusal.Verdict.{Verdict}
 use Rattle.auction.specs.Refusals.{Check, firstOf}
 use Rattle.auction.specs.Calls.{opened}
-use Rattle.certificate.specs.Check.{clashChecks, priceChecks, gainChecks, bareChecks}
-use Rattle.certificate.specs.Lent.{lent, listChecks}
+use Rattle.certificate.specs.Check.{clashChecks, priceChecks, gainChecks, bareChecks, listChecks}
+use Rattle.certificate.specs.Lent.{lent}
 use Rattle.certificate.proofs.Served.{price-served, gain-served}
 use Rattle.certificate.proofs.Outcomes.{stops, passes}
 use borrow.Author.Needs.{needs}

@@ -7,7 +7,7 @@ use lib.ListN.{length}
 use lib.Dec.{leb}
 use Rattle.duality.specs.Lists.{cells}
 use Rattle.auction.specs.declared.refusal.Refusal.the-variants.{Price}
-use Rattle.certificate.specs.Limits.{maxPrice}
+use Rattle.auction.specs.Limits.{maxPrice}
 use Rattle.certificate.proofs.Places.{Left, left-all, left-on, left-stops, left-ends, gain-each}
 use Rattle.certificate.proofs.cover.gains_verdict.Statement.{statement}
 use Rattle.certificate.proofs.cover.gains_verdict.Tie as tie

@@ -8,7 +8,7 @@ use lib.ListN.{length, getD}
 use lib.Dec.{eqb, leb}
 use Rattle.duality.specs.Lists.{cells}
 use Rattle.auction.specs.declared.refusal.Refusal.the-variants.{Price}
-use Rattle.certificate.specs.Limits.{maxPrice}
+use Rattle.auction.specs.Limits.{maxPrice}
 use Rattle.certificate.specs.Check.{priceTest}
 use Rattle.certificate.proofs.Places.{Left, left-all, left-on, left-stops, left-ends, price-each}
 use borrow.Author.Needs.{needs}

@@ -5,7 +5,7 @@ use native.Mathlib.Omega.{arith}
 use lib.ListN.{length}
 use Rattle.duality.specs.Sums.{sumTo}
 use Rattle.duality.specs.Lists.{cells}
-use Rattle.certificate.specs.Limits.{maxPrice}
+use Rattle.auction.specs.Limits.{maxPrice}
 use Rattle.certificate.proofs.Sums.{sum-next}
 use borrow.Author.Needs.{needs}
 use Rattle.certificate.proofs.cover.sum_of.Statement.{statement}

@@ -104,7 +104,7 @@ stands c = let l = c .before .before .before in inside (l .before .before .args 
 -- the number at a tab
 numbered : (c : tie.After-field Inv-loop μ-loop)
     → let l = c .before .before .before .before .before .before in fieldAt (l .before .before .args .text .now) (l .loop .i + 1) ≡ Number (c .field .given .0 .0) (c .field .given .0 .1 .0)
-numbered c = sym (c .before .before .field-at .ensures) ∙ c .field .given .1
+numbered c = sym (c .before .before .take-at .ensures) ∙ c .field .given .1
 
 loop-holds : tie.Need-loop-holds Inv-loop μ-loop
 loop-holds c = let a = c .before .args in gathered-none (a .text .now) (a .at) (a .letter)
@@ -131,11 +131,11 @@ returns-2 c =
     c .bad-line .ensures
     ∙ gathered-bad (b .before .loop .inv) (λ e. t .before .if1 .left (b .byte-at .ensures ∙ e)) (λ e. t .if2 .taken (b .byte-at .ensures ∙ e))
 
-add-field-at : tie.Need-add-field-at Inv-loop μ-loop
-add-field-at c = omega (arith, stands c)
+add-take-at : tie.Need-add-take-at Inv-loop μ-loop
+add-take-at c = omega (arith, stands c)
 
-field-at-requires : tie.Need-field-at-requires Inv-loop μ-loop
-field-at-requires c κs = tt
+take-at-requires : tie.Need-take-at-requires Inv-loop μ-loop
+take-at-requires c κs = tt
 
 enum-known-field : tie.Need-enum-known-field Inv-loop μ-loop
 enum-known-field c = search needs
@@ -150,7 +150,7 @@ returns-3 : tie.Need-returns-3 Inv-loop μ-loop
 returns-3 c =
     let f = c .before .before .before in
     let t = f .before in
-    c .bad-line2 .ensures ∙ gathered-spoilt (t .before .before .before .loop .inv) (tabbed t) (sym (f .field-at .ensures) ∙ c .before .enum-told .given .1)
+    c .bad-line2 .ensures ∙ gathered-spoilt (t .before .before .before .loop .inv) (tabbed t) (sym (f .take-at .ensures) ∙ c .before .enum-told .given .1)
 
 slice-aggregate-keep : tie.Need-slice-aggregate-keep Inv-loop μ-loop
 slice-aggregate-keep c = sym (c .before .before .before .before .before .before .before .before .loop .inv .room)
@@ -187,8 +187,8 @@ fields-at-spec =
     returns
     bad-line-requires
     returns-2
-    add-field-at
-    field-at-requires
+    add-take-at
+    take-at-requires
     enum-known-field
     enum-told
     bad-line-requires-2

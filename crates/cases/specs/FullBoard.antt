@@ -1,0 +1,36 @@
+-- The soundness test computes: a full board of 64 items, 128 bidders and 8,192 edges is sound, and with one cell changed it is not.
+use mathlib.Core.Path.{_≡_}
+use mathlib.Core.Bool.{true, false}
+use mathlib.Core.List.{List, [], _∷_}
+use Prim.Native.Nat.{ℕ, zero, suc, _+_, _*_}
+use lib.ListN.{replicate, set}
+use Rattle.auction.specs.declared.board.Auction.{Auction}
+use Rattle.auction.specs.Limits.{maxItems, maxBidders}
+use Rattle.auction.specs.Cells.{scaled}
+use Rattle.auction.specs.SoundTest.{soundTest}
+
+-- The numbers from i on, n of them
+unfoldable pub count : ℕ → ℕ → List ℕ
+count i zero = []
+count i (suc n) = i ∷ count (i + 1) n
+
+-- Slack 1/2. Bidder i holds item i at price 3, all edges weigh 1, but the last bidder's edge at the last item weighs w.
+unfoldable pub full : ℕ → Auction
+full w =
+    record {
+      items = maxItems;
+      slack = record { p = 1; q = 2 };
+      arrived = maxBidders;
+      price = replicate maxItems (scaled 3);
+      holder = count 1 maxItems;
+      withdrawn = replicate maxItems false;
+      gain = replicate maxBidders (scaled 0);
+      weights = set (replicate (maxBidders * maxItems) 1) 8191 w;
+    }
+
+abbrev pub FullSound : Type 0
+FullSound = soundTest (full 3) ≡ true
+
+-- (q - p) × 4 is above the price of 3
+abbrev pub FullUnsound : Type 0
+FullUnsound = soundTest (full 4) ≡ false

@@ -1,0 +1,22 @@
+-- An outcome is told as its answer is told.
+use mathlib.Core.Path.{_≡_, ap, _∙_}
+use mathlib.Core.List.{List}
+use Prim.Native.Nat.{ℕ}
+use Rattle.auction.specs.declared.calls.ReadOut.{ReadOut}
+use Rattle.auction.specs.Rule.{Outcome, done}
+use Rattle.auction.specs.Calls.{Lists, ReadOutcome}
+use Rattle.auction.specs.Calls as calls
+use Rattle.history.specs.declared.planning.Planned.{Planned}
+use Rattle.history.specs.Plan.{PlanOutcome}
+use Rattle.history.specs.Plan as plan
+use Rattle.exports.specs.declared.answers.Told.{Told}
+use Rattle.exports.specs.Answers.{answered, toldLists, readOutTold, readOutAnswer, toldBytes, plannedTold, planAnswer}
+
+pub told-done : {A B : Type 0} (f : A → B) {x : A} {y : B} {o : Outcome A} → done x ≡ o → y ≡ f x → done y ≡ answered f o
+told-done f e t = ap done t ∙ ap (answered f) e
+
+pub told-lists : (a : ReadOut) (t : Told) (l : Lists) {o : ReadOutcome} → calls.outcome a l ≡ o → t ≡ readOutTold a → toldLists t l ≡ readOutAnswer o
+told-lists a t l e h = ap (λ x. toldLists x l) h ∙ ap readOutAnswer e
+
+pub told-bytes : (a : Planned) (t : Told) (out : List ℕ) {o : PlanOutcome} → plan.outcome a out ≡ o → t ≡ plannedTold a → toldBytes t out ≡ planAnswer o
+told-bytes a t out e h = ap (λ x. toldBytes x out) h ∙ ap planAnswer e

@@ -1,0 +1,18 @@
+-- `answers::refusing` meets its contract.
+use mathlib.Core.Path.{ap, _∙_}
+use Rattle.exports.specs.Answers.{stoppedAt}
+use borrow.Author.Needs.{needs}
+use Rattle.exports.proofs.answers.refusing.Statement.{statement}
+use Rattle.exports.proofs.answers.refusing.Tie as tie
+
+place-of-requires : tie.Need-place-of-requires
+place-of-requires c κs = search needs
+
+stopping-requires : tie.Need-stopping-requires
+stopping-requires c κs = search needs
+
+returns : tie.Need-returns
+returns c = c .stopping .ensures ∙ ap (λ i. stoppedAt (c .before .before .args .refusal) i 0) (c .before .place-of .ensures)
+
+pub refusing-spec : {M : Type 1} → statement M
+refusing-spec = tie.close (tie.spec place-of-requires stopping-requires returns)

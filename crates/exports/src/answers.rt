@@ -1,0 +1,234 @@
+// What a call answers, in numbers: enums do not cross to another language. Each function here is one call's answer, told so.
+use auction::board::Auction;
+use auction::calls::Arrival;
+use auction::calls::Arrived;
+use auction::calls::Opened;
+use auction::calls::Opening;
+use auction::calls::ReadOut;
+use auction::calls::Withdrawal;
+use auction::calls::Withdrawn;
+use auction::refusal::Refusal;
+use auction::replay::Ending;
+use auction::replay::Replayed;
+use certificate::Checked;
+use history::planning::Planned;
+use history::planning::number_of;
+use hungarian::exact::Greatest;
+ghost use mathlib.Core.Path.{_≡_};
+ghost use Rattle.auction.specs.Refusals.{codeOf};
+ghost use Rattle.exports.specs.Answers.{served, refused, stoppedAt, withBoard, openedTold, openAnswer, arrivedTold, arrivalAnswer, withdrawnTold, withdrawalAnswer, readOutTold, exactTold, totalsOf, endingTold, replayAnswer, plannedTold};
+
+// A call's answer. Number 0 says that the call served, with a value where it has one. Any other number is the refusal's, with its place.
+#[repr(C)]
+pub struct Told {
+    pub number: u64,
+    pub place: u64,
+    pub value: u64,
+}
+
+// The same beside a board.
+#[repr(C)]
+pub struct Answer {
+    pub board: Auction,
+    pub number: u64,
+    pub place: u64,
+    pub value: u64,
+}
+
+// The answer of the check: the matching's weight in pence, and the sum of prices and gains in q-ths of a penny.
+#[repr(C)]
+pub struct Totals {
+    pub number: u64,
+    pub place: u64,
+    pub weight: u64,
+    pub total: u64,
+}
+
+// The place of a refusal, 0 where it has none.
+fn place_of(refusal: Refusal) -> u64
+    ensures { λ r. ⌜ r ≡ codeOf refusal .place ⌝ }
+{
+    match refusal {
+        Refusal::Count => 0,
+        Refusal::Slack => 0,
+        Refusal::Full => 0,
+        Refusal::Unknown(place) => place,
+        Refusal::Gone(place) => place,
+        Refusal::Worth(place) => place,
+        Refusal::Order(place) => place,
+        Refusal::Short => 0,
+        Refusal::Uneven => 0,
+        Refusal::Clash(place) => place,
+        Refusal::Price(place) => place,
+        Refusal::Bare(place) => place,
+        Refusal::Spoilt => 0,
+        Refusal::Line(place) => place,
+        Refusal::Long => 0,
+    }
+}
+
+// The call served.
+fn serving(value: u64) -> Told
+    ensures { λ r. ⌜ r ≡ served value ⌝ }
+{
+    Told {
+        number: 0,
+        place: 0,
+        value,
+    }
+}
+
+// A text refused at a line: the place is the line.
+fn stopping(refusal: Refusal, line: u64, value: u64) -> Told
+    ensures { λ r. ⌜ r ≡ stoppedAt refusal line value ⌝ }
+{
+    Told {
+        number: number_of(refusal),
+        place: line,
+        value,
+    }
+}
+
+// The call refused.
+fn refusing(refusal: Refusal) -> Told
+    ensures { λ r. ⌜ r ≡ refused refusal ⌝ }
+{
+    stopping(refusal, place_of(refusal), 0)
+}
+
+// What is told, beside a board.
+fn beside(board: Auction, told: Told) -> Answer
+    ensures { λ r. ⌜ r ≡ withBoard board told ⌝ }
+{
+    Answer {
+        board,
+        number: told.number,
+        place: told.place,
+        value: told.value,
+    }
+}
+
+fn opened_told(answer: Opened) -> Told
+    ensures { λ r. ⌜ r ≡ openedTold answer ⌝ }
+{
+    match answer {
+        Opened::Ready => serving(0),
+        Opened::Refused(refusal) => refusing(refusal),
+    }
+}
+
+// An opened board.
+pub(crate) fn open_answer(opening: Opening) -> Answer
+    ensures { λ r. ⌜ r ≡ openAnswer opening ⌝ }
+{
+    let board = opening.auction;
+    let answer = opening.answer;
+    beside(board, opened_told(answer))
+}
+
+fn arrived_told(answer: Arrived) -> Told
+    ensures { λ r. ⌜ r ≡ arrivedTold answer ⌝ }
+{
+    match answer {
+        Arrived::Bids(bids) => serving(bids),
+        Arrived::Refused(refusal) => refusing(refusal),
+    }
+}
+
+// A board after an arrival.
+pub(crate) fn arrival_answer(arrival: Arrival) -> Answer
+    ensures { λ r. ⌜ r ≡ arrivalAnswer arrival ⌝ }
+{
+    let board = arrival.auction;
+    let answer = arrival.answer;
+    beside(board, arrived_told(answer))
+}
+
+fn withdrawn_told(answer: Withdrawn) -> Told
+    ensures { λ r. ⌜ r ≡ withdrawnTold answer ⌝ }
+{
+    match answer {
+        Withdrawn::Bids(bids) => serving(bids),
+        Withdrawn::Refused(refusal) => refusing(refusal),
+    }
+}
+
+// A board after a withdrawal.
+pub(crate) fn withdrawal_answer(withdrawal: Withdrawal) -> Answer
+    ensures { λ r. ⌜ r ≡ withdrawalAnswer withdrawal ⌝ }
+{
+    let board = withdrawal.auction;
+    let answer = withdrawal.answer;
+    beside(board, withdrawn_told(answer))
+}
+
+// A read-out.
+pub(crate) fn read_out_told(answer: ReadOut) -> Told
+    ensures { λ r. ⌜ r ≡ readOutTold answer ⌝ }
+{
+    match answer {
+        ReadOut::Written => serving(0),
+        ReadOut::Refused(refusal) => refusing(refusal),
+    }
+}
+
+// What the exact level answers.
+pub(crate) fn exact_told(answer: Greatest) -> Told
+    ensures { λ r. ⌜ r ≡ exactTold answer ⌝ }
+{
+    match answer {
+        Greatest::Weight(weight) => serving(weight.0),
+        Greatest::Refused(refusal) => refusing(refusal),
+    }
+}
+
+// What the check answers.
+pub(crate) fn totals_of(answer: Checked) -> Totals
+    ensures { λ r. ⌜ r ≡ totalsOf answer ⌝ }
+{
+    match answer {
+        Checked::Totals(weight, sum) => Totals {
+            number: 0,
+            place: 0,
+            weight: weight.0,
+            total: sum.0,
+        },
+        Checked::Refused(refusal) => {
+            let refused = refusing(refusal);
+            Totals {
+                number: refused.number,
+                place: refused.place,
+                weight: 0,
+                total: 0,
+            }
+        }
+    }
+}
+
+fn ending_told(answer: Ending, bids: u64) -> Told
+    ensures { λ r. ⌜ r ≡ endingTold answer bids ⌝ }
+{
+    match answer {
+        Ending::Finished => serving(bids),
+        Ending::Stopped(refusal, line) => stopping(refusal, line, bids),
+    }
+}
+
+// A replayed text.
+pub(crate) fn replay_answer(replayed: Replayed) -> Answer
+    ensures { λ r. ⌜ r ≡ replayAnswer replayed ⌝ }
+{
+    let board = replayed.auction;
+    let answer = replayed.answer;
+    beside(board, ending_told(answer, replayed.bids))
+}
+
+// A written text.
+pub(crate) fn planned_told(answer: Planned) -> Told
+    ensures { λ r. ⌜ r ≡ plannedTold answer ⌝ }
+{
+    match answer {
+        Planned::Written(bytes) => serving(bytes),
+        Planned::Refused(refusal, line) => stopping(refusal, line, 0),
+    }
+}

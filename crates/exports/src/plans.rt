@@ -1,0 +1,42 @@
+// The exact level, and the check of lists that were made elsewhere.
+use crate::answers::Told;
+use crate::answers::Totals;
+use crate::answers::exact_told;
+use crate::answers::totals_of;
+use auction::board::Auction;
+use certificate::check;
+use hungarian::exact::exact;
+ghost use mathlib.Core.Path.{_≡_};
+ghost use Rattle.auction.specs.Calls.{lists};
+ghost use Rattle.certificate.specs.Check.{checkOf};
+ghost use Rattle.exports.specs.Answers.{ExactAnswer, totalsOf};
+
+// Writes a matching of greatest weight, and prices and gains that show it, into three lent lists. The value is that weight.
+#[no_mangle]
+pub extern "C" fn noughtelm_exact(
+    board: Auction,
+    plan: &mut [u64],
+    prices: &mut [u64],
+    gains: &mut [u64],
+) -> Told
+    ensures { λ r. ⌜ ExactAnswer board (lists (now (plan .entry)) (now (prices .entry)) (now (gains .entry))) r (lists (now (plan .exit)) (now (prices .exit)) (now (gains .exit))) ⌝ }
+{
+    let answer = exact(board, plan, prices, gains);
+    exact_told(answer)
+}
+
+// Checks a matching, prices and gains against a board's live edges at a slack p/q.
+#[no_mangle]
+pub extern "C" fn noughtelm_check(
+    board: Auction,
+    plan: &[u64],
+    prices: &[u64],
+    gains: &[u64],
+    p: u64,
+    q: u64,
+) -> Totals
+    ensures { λ r. ⌜ r ≡ totalsOf (checkOf board (lists (now (plan .entry)) (now (prices .entry)) (now (gains .entry))) p q) ⌝ }
+{
+    let answer = check(board, plan, prices, gains, p, q);
+    totals_of(answer)
+}

@@ -1,0 +1,54 @@
+// The calls on a history text. The place of a refusal is the line.
+use crate::answers::Answer;
+use crate::answers::Told;
+use crate::answers::planned_told;
+use crate::answers::replay_answer;
+use auction::replay::replay;
+use history::planning::MAX_OUTPUT;
+use history::planning::plan_text;
+use history::planning::refusal_line;
+use history::planning::sheet_text;
+ghost use mathlib.Core.Path.{_≡_};
+ghost use mathlib.Core.List.{_++_};
+ghost use Prim.Native.Nat.{_≤_};
+ghost use lib.ListN.{length, take, drop};
+ghost use Rattle.auction.specs.Rule.{done};
+ghost use Rattle.auction.specs.Replay.{replayOf};
+ghost use Rattle.history.specs.Output.{refusalLine};
+ghost use Rattle.history.specs.Plan.{fitted, planOf, sheetOf};
+ghost use Rattle.exports.specs.Answers.{answered, replayAnswer, toldBytes, planAnswer};
+
+// Replays a text. The value is the number of bids in all, up to the refusal where there is one.
+#[no_mangle]
+pub extern "C" fn noughtelm_replay(text: &[u8]) -> Answer
+    ensures { λ r. ⌜ done r ≡ answered replayAnswer (replayOf (now (text .entry))) ⌝ }
+{
+    let replayed = replay(text);
+    replay_answer(replayed)
+}
+
+// Replays a text and writes its plan. The value is the number of bytes.
+#[no_mangle]
+pub extern "C" fn noughtelm_plan_text(text: &[u8], out: &mut [u8]) -> Told
+    ensures { λ r. ⌜ done (toldBytes r (now (out .exit))) ≡ answered planAnswer (planOf (now (text .entry)) (now (out .entry))) ⌝ }
+{
+    let planned = plan_text(text, out);
+    planned_told(planned)
+}
+
+// Writes the line that a refused text prints. The value is the number of bytes.
+#[no_mangle]
+pub extern "C" fn noughtelm_refusal_line(number: u64, line: u64, out: &mut [u8]) -> Told
+    ensures { λ r. ⌜ toldBytes r (now (out .exit)) ≡ planAnswer (fitted (refusalLine number line) (now (out .entry))) ⌝ }
+{
+    let planned = refusal_line(number, line, out);
+    planned_told(planned)
+}
+
+// Writes what the program prints, and answers how many bytes that is; further cells are as they were.
+#[no_mangle]
+pub extern "C" fn noughtelm_sheet_text(text: &[u8], out: &mut [u8; MAX_OUTPUT]) -> usize
+    ensures { λ r. ⌜ (r ≤ length (now (out .exit))) × (r ≡ length (take r (now (out .exit)))) × (take r (now (out .exit)) ≡ sheetOf (now (text .entry))) × (now (out .exit) ≡ sheetOf (now (text .entry)) ++ drop r (now (out .entry))) ⌝ }
+{
+    sheet_text(text, out)
+}

@@ -1,0 +1,1 @@
+-- Nothing is stated here: the lemmas of proofs/ are about any function.

@@ -1,0 +1,1 @@
+// What the proofs by hand share stands in proofs/. There is no code to run here.
