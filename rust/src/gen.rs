@@ -3,4 +3,6 @@
 pub mod board;
 pub mod claim;
 pub mod history;
+pub mod list;
+pub mod sheet;
 pub mod text;

@@ -30,14 +30,7 @@ struct Tree {
 }
 
 pub fn greatest_weight(auction: &Auction) -> u64 {
-    let mut solver = Solver {
-        items: auction.items,
-        weights: [[0; ITEMS]; BIDDERS],
-        price: [0; ITEMS],
-        gain: [0; BIDDERS],
-        holder: [NONE; ITEMS],
-        held: [NONE; BIDDERS],
-    };
+    let mut solver = Solver::new(auction.items);
     for bidder in 0..auction.arrived {
         for edge in auction.edges_of(bidder) {
             if !auction.withdrawn[edge.item as usize] {
@@ -46,11 +39,37 @@ pub fn greatest_weight(auction: &Auction) -> u64 {
         }
         solver.add(bidder);
     }
-    let held = solver.holder.iter().enumerate().filter(|(_, &b)| b != NONE);
-    held.map(|(item, &b)| solver.weights[b as usize][item] as u64).sum()
+    solver.weight()
+}
+
+/// The same of the live weights themselves, a row per bidder, 0 for no edge.
+pub fn greatest_of(items: usize, rows: &[[u32; ITEMS]]) -> u64 {
+    let mut solver = Solver::new(items);
+    for (bidder, row) in rows.iter().enumerate() {
+        solver.weights[bidder] = row.map(|weight| weight as i32);
+        solver.add(bidder);
+    }
+    solver.weight()
 }
 
 impl Solver {
+    fn new(items: usize) -> Solver {
+        Solver {
+            items,
+            weights: [[0; ITEMS]; BIDDERS],
+            price: [0; ITEMS],
+            gain: [0; BIDDERS],
+            holder: [NONE; ITEMS],
+            held: [NONE; BIDDERS],
+        }
+    }
+
+    /// The weight of what is held.
+    fn weight(&self) -> u64 {
+        let held = self.holder.iter().enumerate().filter(|(_, &b)| b != NONE);
+        held.map(|(item, &b)| self.weights[b as usize][item] as u64).sum()
+    }
+
     fn add(&mut self, bidder: usize) {
         let surplus = |item: usize| self.weights[bidder][item] - self.price[item];
         self.gain[bidder] = (0..self.items).map(surplus).max().unwrap_or(0).max(0);

@@ -8,7 +8,7 @@ pub const MAX_TEXT: usize = 65_536;
 const MAX_DIGITS: usize = 7;
 
 /// A refusal's number, at the line that the reader has reached.
-type Number = u32;
+pub type Number = u32;
 
 struct Reader<'a> {
     text: &'a [u8],
@@ -63,6 +63,11 @@ pub fn sheet(text: &[u8]) -> Vec<u8> {
     }
     .expect("a vector takes every byte");
     out
+}
+
+/// The auction at the text's end and all bids, or the number of a refusal.
+pub fn replay_text(text: &[u8]) -> Result<(Box<Auction>, u64), Number> {
+    replay(&mut Reader { text, at: 0, line: 0 })
 }
 
 fn replay(reader: &mut Reader) -> Result<(Box<Auction>, u64), Number> {

@@ -72,7 +72,7 @@ fn repair(r: &mut Record) {
 /// place for it.
 pub type Spoil = fn(&mut Rng, &mut Record) -> bool;
 
-pub const SPOILS: [(&str, Spoil); 21] = [
+pub const SPOILS: [(&str, Spoil); 26] = [
     ("no items", |_, r| set(&mut r.items, 0)),
     ("too many items", |rng, r| set(&mut r.items, rng.pick(&[65, 1 << 32, u64::MAX]))),
     ("too many bidders", |rng, r| set(&mut r.arrived, rng.pick(&[129, 256, u64::MAX]))),
@@ -91,8 +91,13 @@ pub const SPOILS: [(&str, Spoil); 21] = [
     ("bidder at two items", |rng, r| two_items(rng, r)),
     ("holder without edge", |rng, r| at_pair(rng, r, |r, b, i| r.rows[b][i] = 0)),
     ("withdrawn item held", |rng, r| at_pair(rng, r, |r, _, i| r.withdrawn[i] = true)),
-    ("pair not tight", |rng, r| loose_pair(rng, r)),
-    ("zero left behind", |rng, r| left_behind(rng, r)),
+    ("pair's weight raised", |rng, r| at_pair(rng, r, |r, b, i| r.rows[b][i] += 1)),
+    ("pair's gain raised", |rng, r| at_pair(rng, r, |r, b, _| r.gain[b] += 1)),
+    ("pair's price raised", |rng, r| at_pair(rng, r, |r, _, i| r.price[i] += 1)),
+    ("pair's price far too high", |rng, r| at_pair(rng, r, |r, _, i| r.price[i] += 1 << 63)),
+    ("price of a free item", |rng, r| free_price(rng, r, false)),
+    ("price of a withdrawn item", |rng, r| free_price(rng, r, true)),
+    ("gain of an unplaced bidder", |rng, r| unplaced_gain(rng, r)),
     ("edge not covered", |rng, r| uncover(rng, r)),
 ];
 
@@ -172,30 +177,24 @@ fn two_items(rng: &mut Rng, r: &mut Record) -> bool {
     true
 }
 
-fn loose_pair(rng: &mut Rng, r: &mut Record) -> bool {
-    let raise = rng.pick(&[1, 1 << 32, u64::MAX / 2]);
-    match rng.below(3) {
-        0 => at_pair(rng, r, |r, b, i| r.rows[b][i] += 1),
-        1 => at_pair(rng, r, |r, b, _| r.gain[b] += 1),
-        _ => {
-            let held = pairs(r);
-            held.first().map(|&(_, item)| r.price[item] += raise).is_some()
-        }
+fn free_price(rng: &mut Rng, r: &mut Record, withdrawn: bool) -> bool {
+    let mut free = free_items(r);
+    free.retain(|&item| r.withdrawn[item] == withdrawn);
+    if free.is_empty() {
+        return false;
     }
+    r.price[rng.pick(&free)] = rng.pick(&[1, u64::MAX]);
+    true
 }
 
-/// A price at a free or withdrawn item, or the gain of an unplaced bidder.
-fn left_behind(rng: &mut Rng, r: &mut Record) -> bool {
+fn unplaced_gain(rng: &mut Rng, r: &mut Record) -> bool {
     let placed: Vec<usize> = pairs(r).into_iter().map(|(b, _)| b).collect();
     let unplaced: Vec<usize> = (0..r.arrived as usize).filter(|b| !placed.contains(b)).collect();
-    let free = free_items(r);
-    let by_gain = !unplaced.is_empty() && (free.is_empty() || rng.chance(1, 2));
-    if by_gain {
-        r.gain[rng.pick(&unplaced)] = rng.pick(&[1, u64::MAX]);
-    } else if !free.is_empty() {
-        r.price[rng.pick(&free)] = rng.pick(&[1, u64::MAX]);
+    if unplaced.is_empty() {
+        return false;
     }
-    by_gain || !free.is_empty()
+    r.gain[rng.pick(&unplaced)] = rng.pick(&[1, u64::MAX]);
+    true
 }
 
 /// One more than is covered, on a live edge that nobody holds.
@@ -217,6 +216,71 @@ fn uncover(rng: &mut Rng, r: &mut Record) -> bool {
     let (bidder, item) = rng.pick(&open);
     r.rows[bidder][item] = least(r, bidder, item) as u32;
     true
+}
+
+/// Another number in one cell, often a near one; the board may stay sound.
+pub fn nudge(rng: &mut Rng, r: &mut Record) {
+    let (items, bidders) = (r.items.clamp(1, 64) as usize, r.arrived.clamp(1, 128) as usize);
+    let (item, bidder) = (rng.index(items), rng.index(bidders));
+    match rng.below(10) {
+        0 => r.items = near(rng, r.items),
+        1 => r.arrived = near(rng, r.arrived),
+        2 => r.slack.p = near(rng, r.slack.p),
+        3 => r.slack.q = near(rng, r.slack.q),
+        4 => r.price[item] = near(rng, r.price[item]),
+        5 => r.gain[bidder] = near(rng, r.gain[bidder]),
+        6 => r.holder[item] = near(rng, r.holder[item] as u64) as u8,
+        7 => r.withdrawn[item] = !r.withdrawn[item],
+        _ => r.rows[bidder][item] = near(rng, r.rows[bidder][item] as u64) as u32,
+    }
+}
+
+fn near(rng: &mut Rng, n: u64) -> u64 {
+    match rng.below(8) {
+        0 => rng.word(),
+        1 => 0,
+        2 => u64::MAX,
+        3 | 4 => n.wrapping_sub(1),
+        5 => n.wrapping_add(rng.range(2, 200)),
+        _ => n.wrapping_add(1),
+    }
+}
+
+/// Every unused cell of a board, one after the other.
+pub fn unused_cells(r: &Record) -> Vec<Unused> {
+    let (items, arrived) = (r.items as usize, r.arrived as usize);
+    let mut cells = Vec::new();
+    cells.extend((items..MAX_ITEMS).map(Unused::Price));
+    cells.extend((items..MAX_ITEMS).map(Unused::Holder));
+    cells.extend((items..MAX_ITEMS).map(Unused::Withdrawn));
+    cells.extend((arrived..MAX_BIDDERS).map(Unused::Gain));
+    for bidder in 0..MAX_BIDDERS {
+        let first = if bidder < arrived { items } else { 0 };
+        cells.extend((first..MAX_ITEMS).map(|item| Unused::Weight(bidder, item)));
+    }
+    cells
+}
+
+#[derive(Clone, Copy, Debug)]
+pub enum Unused {
+    Price(usize),
+    Holder(usize),
+    Withdrawn(usize),
+    Gain(usize),
+    Weight(usize, usize),
+}
+
+impl Unused {
+    /// A number that is not 0 in this cell.
+    pub fn fill(self, r: &mut Record, number: u64) {
+        match self {
+            Unused::Price(i) => r.price[i] = number,
+            Unused::Holder(i) => r.holder[i] = number as u8,
+            Unused::Withdrawn(i) => r.withdrawn[i] = true,
+            Unused::Gain(b) => r.gain[b] = number,
+            Unused::Weight(b, i) => r.rows[b][i] = number as u32,
+        }
+    }
 }
 
 /// Any numbers in every cell; some of them small, so that tests go deep.

@@ -49,7 +49,7 @@ fn damage(rng: &mut Rng, claim: &mut Claim, items: u64) {
                 1 => &mut claim.price,
                 _ => &mut claim.gain,
             };
-            list.resize(rng.pick(&[0, list.len().saturating_sub(1), list.len() + 1]), 0);
+            list.resize(rng.pick(&[0, list.len().saturating_sub(1), list.len() + 1, 1_000]), 0);
         }
         3 | 4 => {
             let any = rng.range(0, items);
@@ -68,4 +68,43 @@ fn put(rng: &mut Rng, list: &mut [u64], change: impl Fn(u64) -> u64) {
         let at = rng.index(list.len());
         list[at] = change(list[at]);
     }
+}
+
+/// A claim that is accepted and owes nothing to the auction's own lists: a
+/// matching picked at random, prices at random, gains that cover the rest.
+pub fn accepted(rng: &mut Rng, auction: &Auction) -> Claim {
+    let q = rng.pick(&[1, 2, 10, 1_000]);
+    let slack = Slack { p: rng.below(q), q };
+    let factor = slack.q - slack.p;
+    let limit = rng.pick(&[0, 1_000, MAX_PRICE]);
+    let price: Vec<u64> = auction.items.iter().map(|item| price_up_to(rng, item, limit)).collect();
+    let rest = |edge: &Edge| (factor * edge.weight).saturating_sub(price[edge.item as usize - 1]);
+    let live = |bidder: &Bidder| {
+        let edges = bidder.edges.iter().filter(|&&e| auction.is_live(e));
+        edges.map(rest).max().unwrap_or(0)
+    };
+    let gain = auction.bidders.iter().map(live).collect();
+    Claim { matching: matching(rng, auction), price, gain, slack }
+}
+
+fn price_up_to(rng: &mut Rng, item: &Item, limit: u64) -> u64 {
+    match item.withdrawn {
+        true => 0,
+        false => rng.range(0, limit),
+    }
+}
+
+fn matching(rng: &mut Rng, auction: &Auction) -> Vec<u64> {
+    let mut taken = vec![false; auction.items.len()];
+    let mut cell = |bidder: &Bidder| {
+        let live = bidder.edges.iter().filter(|&&e| auction.is_live(e));
+        let free: Vec<u64> = live.map(|e| e.item).filter(|&i| !taken[i as usize - 1]).collect();
+        if free.is_empty() || rng.chance(1, 4) {
+            return 0;
+        }
+        let item = rng.pick(&free);
+        taken[item as usize - 1] = true;
+        item
+    };
+    auction.bidders.iter().map(&mut cell).collect()
 }

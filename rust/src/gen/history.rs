@@ -261,3 +261,29 @@ pub fn staircase(items: u64) -> History {
     calls.push(Call::Arrive(vec![Edge { item: 1, weight: 100 }]));
     History { items, slack: Slack { p: 1, q: 2 }, calls }
 }
+
+/// The same path, its bidders in the other order but for the last.
+pub fn staircase_down(items: u64) -> History {
+    let mut history = staircase(items);
+    history.calls[..items as usize - 1].reverse();
+    history
+}
+
+/// Every bidder has every edge, all of one weight: the one bidder too many looks
+/// at every item and its holder.
+pub fn level(items: u64, bidders: usize) -> History {
+    let row: Vec<Edge> = (1..=items).map(|item| Edge { item, weight: 777 }).collect();
+    let calls = vec![Call::Arrive(row); bidders];
+    History { items, slack: Slack { p: 1, q: 2 }, calls }
+}
+
+/// Edges at two items in a row whose weights rise along the row, so that prices
+/// change on the way.
+pub fn slope(items: u64) -> History {
+    let edge = |item: u64, weight: u64| Edge { item, weight: 100 * weight };
+    let mut calls: Vec<Call> =
+        (1..items).map(|i| Call::Arrive(vec![edge(i, i + 1), edge(i + 1, i)])).collect();
+    calls.push(Call::Arrive(vec![edge(1, items), edge(items, 1)]));
+    calls.push(Call::Arrive(vec![edge(1, 2 * items)]));
+    History { items, slack: Slack { p: 1, q: 2 }, calls }
+}

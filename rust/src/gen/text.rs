@@ -35,6 +35,27 @@ pub fn dense() -> Vec<u8> {
     out.into_bytes()
 }
 
+/// A text of exactly so many bytes that is served: as the dense one, with as
+/// many weights of five digits as are needed.
+pub fn served_of_length(bytes: usize) -> Vec<u8> {
+    let shortest = 64_651;
+    assert!((shortest..shortest + 8_192).contains(&bytes));
+    let mut rng = Rng::new(2025);
+    let mut long = bytes - shortest;
+    let mut out = String::from("K\t64\t1\t100\n");
+    for _ in 0..128 {
+        out.push('A');
+        for item in 1..=64 {
+            let least = if long > 0 { 10_000 } else { 1_000 };
+            long = long.saturating_sub(1);
+            out.push_str(&format!("\t{item}\t{}", rng.range(least, 10 * least - 1)));
+        }
+        out.push('\n');
+    }
+    assert_eq!(out.len(), bytes);
+    out.into_bytes()
+}
+
 const NUMBERS: [&str; 22] = [
     "0", "1", "2", "3", "10", "63", "64", "65", "128", "129", "999", "1000", "1001", "9999",
     "1000000", "1000001", "9999999", "10000000", "00", "01", "", "-1",

@@ -4,10 +4,10 @@
 
 use super::auction::*;
 use super::refusal::*;
+use std::fmt;
 
-/// The layout of the proved auction's struct.
-#[repr(C)]
-#[derive(Clone, Debug, PartialEq, Eq)]
+/// A board in cells of fixed number.
+#[derive(Clone, PartialEq, Eq)]
 pub struct Record {
     pub items: u64,
     pub slack: Slack,
@@ -19,6 +19,28 @@ pub struct Record {
     pub gain: [u64; MAX_BIDDERS],
     /// A bidder's weights by item, 0 for no edge.
     pub rows: [[u32; MAX_ITEMS]; MAX_BIDDERS],
+}
+
+/// Only the cells that are not 0, each with its number.
+impl fmt::Debug for Record {
+    fn fmt(&self, f: &mut fmt::Formatter) -> fmt::Result {
+        fn cells<T: Copy + Into<u64>>(list: &[T]) -> Vec<(usize, u64)> {
+            let numbered = list.iter().enumerate().map(|(i, &cell)| (i + 1, cell.into()));
+            numbered.filter(|(_, cell)| *cell != 0).collect()
+        }
+        let rows = self.rows.iter().enumerate().map(|(b, row)| (b + 1, cells(row)));
+        let rows: Vec<_> = rows.filter(|(_, row)| !row.is_empty()).collect();
+        f.debug_struct("Record")
+            .field("items", &self.items)
+            .field("slack", &self.slack)
+            .field("arrived", &self.arrived)
+            .field("price", &cells(&self.price))
+            .field("holder", &cells(&self.holder))
+            .field("withdrawn", &cells(&self.withdrawn))
+            .field("gain", &cells(&self.gain))
+            .field("rows", &rows)
+            .finish()
+    }
 }
 
 impl Record {

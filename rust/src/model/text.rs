@@ -23,20 +23,45 @@ pub fn sheet(text: &[u8]) -> Vec<u8> {
     out
 }
 
+/// How far a text came: the auction, if one was opened, the bids in all, and
+/// the refusal at its line, if there was one.
+pub struct Replayed {
+    pub auction: Option<Auction>,
+    pub bids: u64,
+    pub refusal: Option<Refusal>,
+}
+
 /// The auction at the text's end and all bids; else a refusal at its line.
 pub fn replay(text: &[u8]) -> Result<(Auction, u64), Refusal> {
+    match replay_as_far(text) {
+        Replayed { auction: Some(auction), bids, refusal: None } => Ok((auction, bids)),
+        Replayed { refusal, .. } => Err(refusal.expect("a text without auction is refused")),
+    }
+}
+
+/// The replay up to the end or to the first line that is refused.
+pub fn replay_as_far(text: &[u8]) -> Replayed {
     if text.len() > MAX_TEXT {
-        return refuse(LONG, 0);
+        return Replayed { auction: None, bids: 0, refusal: refuse::<()>(LONG, 0).err() };
     }
     let mut lines = text.split_inclusive(|&b| b == b'\n');
-    let mut auction = opening(lines.next().unwrap_or_default())
-        .map_err(|refusal| Refusal { place: 1, ..refusal })?;
+    let mut auction = match opening(lines.next().unwrap_or_default()) {
+        Ok(auction) => auction,
+        Err(met) => {
+            return Replayed { auction: None, bids: 0, refusal: Some(Refusal { place: 1, ..met }) }
+        }
+    };
     let mut bids = 0;
     for (index, line) in lines.enumerate() {
-        bids += carry_out(&mut auction, line)
-            .map_err(|refusal| Refusal { place: index as u64 + 2, ..refusal })?;
+        match carry_out(&mut auction, line) {
+            Ok(made) => bids += made,
+            Err(met) => {
+                let refusal = Some(Refusal { place: index as u64 + 2, ..met });
+                return Replayed { auction: Some(auction), bids, refusal };
+            }
+        }
     }
-    Ok((auction, bids))
+    Replayed { auction: Some(auction), bids, refusal: None }
 }
 
 fn opening(line: &[u8]) -> Result<Auction, Refusal> {
@@ -92,7 +117,7 @@ fn report(auction: &Auction, bids: u64, out: &mut Vec<u8>) {
     put_line(out, b'E', &[exact.weight]);
 }
 
-fn put_line(out: &mut Vec<u8>, letter: u8, numbers: &[u64]) {
+pub fn put_line(out: &mut Vec<u8>, letter: u8, numbers: &[u64]) {
     out.push(letter);
     for number in numbers {
         out.push(b'\t');

@@ -1,0 +1,261 @@
+//! The proved calls, from the static library.
+//!
+//! Records and declarations stand here as the crate `exports` has them: nothing
+//! checks the one against the other. A slice crosses as a pointer and a length.
+//! No call asks anything of its caller, so each wrapper is safe for all it takes.
+
+pub const MAX_ITEMS: usize = 64;
+pub const MAX_BIDDERS: usize = 128;
+pub const MAX_CELLS: usize = MAX_ITEMS * MAX_BIDDERS;
+/// One more edge than there are items.
+pub const MAX_EDGES: usize = MAX_ITEMS + 1;
+/// No output of a text is longer.
+pub const MAX_OUTPUT: usize = 12_610;
+
+/// q-ths of a penny.
+#[repr(C)]
+#[derive(Clone, Copy, Debug, PartialEq, Eq)]
+pub struct Scaled(pub u64);
+
+#[repr(C)]
+#[derive(Clone, Copy, Debug, PartialEq, Eq)]
+pub struct Slack {
+    pub p: u64,
+    pub q: u64,
+}
+
+#[repr(C)]
+#[derive(Clone, Copy, Debug, PartialEq, Eq)]
+pub struct Edge {
+    pub item: u64,
+    pub weight: u64,
+}
+
+#[repr(C)]
+#[derive(Clone, Copy, Debug, PartialEq, Eq)]
+pub struct EdgeBuffer {
+    pub items: [u64; MAX_EDGES],
+    pub weights: [u64; MAX_EDGES],
+    pub count: u64,
+}
+
+#[repr(C)]
+#[derive(Clone, Copy, Debug, PartialEq, Eq)]
+pub struct Auction {
+    pub items: u64,
+    pub slack: Slack,
+    pub arrived: u64,
+    pub price: [Scaled; MAX_ITEMS],
+    /// The number of the bidder that holds each item, 0 where nobody does.
+    pub holder: [u8; MAX_ITEMS],
+    pub withdrawn: [bool; MAX_ITEMS],
+    pub gain: [Scaled; MAX_BIDDERS],
+    /// Bidder i + 1's edge at item k + 1 is cell 64 × i + k, 0 where there is none.
+    pub weights: [u32; MAX_CELLS],
+}
+
+/// Number 0 says that the call served; any other is the refusal's.
+#[repr(C)]
+#[derive(Clone, Copy, Debug, PartialEq, Eq)]
+pub struct Told {
+    pub number: u64,
+    pub place: u64,
+    pub value: u64,
+}
+
+/// The same beside a board.
+#[repr(C)]
+#[derive(Clone, Copy, Debug, PartialEq, Eq)]
+pub struct Answer {
+    pub board: Auction,
+    pub number: u64,
+    pub place: u64,
+    pub value: u64,
+}
+
+/// The check's answer: the matching's weight, and the sum of prices and gains.
+#[repr(C)]
+#[derive(Clone, Copy, Debug, PartialEq, Eq)]
+pub struct Totals {
+    pub number: u64,
+    pub place: u64,
+    pub weight: u64,
+    pub total: u64,
+}
+
+impl EdgeBuffer {
+    /// The first 65 edges, and how many there are in all.
+    pub fn new(edges: &[Edge]) -> Self {
+        let mut buffer = EdgeBuffer {
+            items: [0; MAX_EDGES],
+            weights: [0; MAX_EDGES],
+            count: edges.len() as u64,
+        };
+        for (i, edge) in edges.iter().take(MAX_EDGES).enumerate() {
+            buffer.items[i] = edge.item;
+            buffer.weights[i] = edge.weight;
+        }
+        buffer
+    }
+}
+
+impl Answer {
+    /// The answer without its board.
+    pub fn told(&self) -> Told {
+        Told { number: self.number, place: self.place, value: self.value }
+    }
+}
+
+mod raw {
+    use super::{Answer, Auction, Edge, EdgeBuffer, Told, Totals, MAX_OUTPUT};
+
+    extern "C" {
+        pub fn noughtelm_open(items: u64, p: u64, q: u64) -> Answer;
+        pub fn noughtelm_arrive(board: Auction, edges: *const Edge, len: usize) -> Answer;
+        pub fn noughtelm_arrive_buffer(board: Auction, buffer: EdgeBuffer) -> Answer;
+        pub fn noughtelm_withdraw(board: Auction, item: u64) -> Answer;
+        pub fn noughtelm_is_sound(board: Auction) -> bool;
+        pub fn noughtelm_read_out(
+            board: Auction,
+            plan: *mut u64,
+            plan_len: usize,
+            prices: *mut u64,
+            prices_len: usize,
+            gains: *mut u64,
+            gains_len: usize,
+        ) -> Told;
+        pub fn noughtelm_exact(
+            board: Auction,
+            plan: *mut u64,
+            plan_len: usize,
+            prices: *mut u64,
+            prices_len: usize,
+            gains: *mut u64,
+            gains_len: usize,
+        ) -> Told;
+        pub fn noughtelm_check(
+            board: Auction,
+            plan: *const u64,
+            plan_len: usize,
+            prices: *const u64,
+            prices_len: usize,
+            gains: *const u64,
+            gains_len: usize,
+            p: u64,
+            q: u64,
+        ) -> Totals;
+        pub fn noughtelm_replay(text: *const u8, len: usize) -> Answer;
+        pub fn noughtelm_plan_text(
+            text: *const u8,
+            len: usize,
+            out: *mut u8,
+            out_len: usize,
+        ) -> Told;
+        pub fn noughtelm_refusal_line(number: u64, line: u64, out: *mut u8, out_len: usize)
+            -> Told;
+        pub fn noughtelm_sheet_text(
+            text: *const u8,
+            len: usize,
+            out: *mut [u8; MAX_OUTPUT],
+        ) -> usize;
+    }
+}
+
+/// Opens a board.
+pub fn open(items: u64, p: u64, q: u64) -> Answer {
+    unsafe { raw::noughtelm_open(items, p, q) }
+}
+
+/// A new bidder arrives with a list of edges of any length; the value is the number of bids.
+pub fn arrive(board: Auction, edges: &[Edge]) -> Answer {
+    unsafe { raw::noughtelm_arrive(board, edges.as_ptr(), edges.len()) }
+}
+
+/// A new bidder arrives with the edges of a buffer; the value is the number of bids.
+pub fn arrive_buffer(board: Auction, buffer: EdgeBuffer) -> Answer {
+    unsafe { raw::noughtelm_arrive_buffer(board, buffer) }
+}
+
+/// An item is withdrawn; the value is the number of bids.
+pub fn withdraw(board: Auction, item: u64) -> Answer {
+    unsafe { raw::noughtelm_withdraw(board, item) }
+}
+
+/// Whether a board is sound.
+pub fn is_sound(board: Auction) -> bool {
+    unsafe { raw::noughtelm_is_sound(board) }
+}
+
+/// Writes the matching, the prices and the gains.
+pub fn read_out(board: Auction, plan: &mut [u64], prices: &mut [u64], gains: &mut [u64]) -> Told {
+    unsafe {
+        raw::noughtelm_read_out(
+            board,
+            plan.as_mut_ptr(),
+            plan.len(),
+            prices.as_mut_ptr(),
+            prices.len(),
+            gains.as_mut_ptr(),
+            gains.len(),
+        )
+    }
+}
+
+/// Writes an exact matching, prices and gains; the value is the greatest weight.
+pub fn exact(board: Auction, plan: &mut [u64], prices: &mut [u64], gains: &mut [u64]) -> Told {
+    unsafe {
+        raw::noughtelm_exact(
+            board,
+            plan.as_mut_ptr(),
+            plan.len(),
+            prices.as_mut_ptr(),
+            prices.len(),
+            gains.as_mut_ptr(),
+            gains.len(),
+        )
+    }
+}
+
+/// Checks a matching, prices and gains at a slack p/q.
+pub fn check(
+    board: Auction,
+    plan: &[u64],
+    prices: &[u64],
+    gains: &[u64],
+    p: u64,
+    q: u64,
+) -> Totals {
+    unsafe {
+        raw::noughtelm_check(
+            board,
+            plan.as_ptr(),
+            plan.len(),
+            prices.as_ptr(),
+            prices.len(),
+            gains.as_ptr(),
+            gains.len(),
+            p,
+            q,
+        )
+    }
+}
+
+/// Replays a text; the place is the refused line, the value the bids in all.
+pub fn replay(text: &[u8]) -> Answer {
+    unsafe { raw::noughtelm_replay(text.as_ptr(), text.len()) }
+}
+
+/// Replays a text and writes its plan; the place is the refused line, the value the bytes.
+pub fn plan_text(text: &[u8], out: &mut [u8]) -> Told {
+    unsafe { raw::noughtelm_plan_text(text.as_ptr(), text.len(), out.as_mut_ptr(), out.len()) }
+}
+
+/// Writes the line that a refused text prints; the value is the bytes.
+pub fn refusal_line(number: u64, line: u64, out: &mut [u8]) -> Told {
+    unsafe { raw::noughtelm_refusal_line(number, line, out.as_mut_ptr(), out.len()) }
+}
+
+/// Writes what the program prints, and answers how many bytes that is.
+pub fn sheet_text(text: &[u8], out: &mut [u8; MAX_OUTPUT]) -> usize {
+    unsafe { raw::noughtelm_sheet_text(text.as_ptr(), text.len(), out) }
+}

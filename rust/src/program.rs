@@ -1,0 +1,51 @@
+//! The built program `sheet`, run as a process. The gate builds it before the
+//! tests; where it is missing a run fails.
+
+use std::io::Write;
+use std::path::{Path, PathBuf};
+use std::process::{Child, Command, Output, Stdio};
+
+pub fn path() -> PathBuf {
+    let path = Path::new(env!("CARGO_MANIFEST_DIR")).join("../target/bin/sheet");
+    assert!(path.is_file(), "there is no program {}", path.display());
+    path
+}
+
+/// The program started by a shell after some commands, such as a limit, and with
+/// some redirections; it is stopped after 20 seconds.
+pub fn command(before: &str, redirections: &str) -> Command {
+    let mut command = Command::new("sh");
+    let script = format!("{before} exec timeout 20 \"$0\" {redirections}");
+    command.arg("-c").arg(script).arg(path());
+    command
+}
+
+pub fn start(mut command: Command) -> Child {
+    let piped = command.stdin(Stdio::piped()).stdout(Stdio::piped()).stderr(Stdio::piped());
+    piped.spawn().expect("a shell")
+}
+
+/// The program's output for these bytes, given in one piece.
+pub fn run(command: Command, text: &[u8]) -> Output {
+    feed(command, [text].into_iter())
+}
+
+/// The same for bytes given piece by piece. The program need not read them all.
+pub fn feed<'a>(command: Command, pieces: impl Iterator<Item = &'a [u8]>) -> Output {
+    let mut child = start(command);
+    let mut input = child.stdin.take().expect("a pipe");
+    for piece in pieces {
+        if input.write_all(piece).is_err() {
+            break;
+        }
+    }
+    drop(input);
+    child.wait_with_output().expect("the program ends")
+}
+
+/// What was printed, by a run that ended well and reported nothing.
+pub fn printed(output: Output) -> String {
+    let reported = String::from_utf8_lossy(&output.stderr).into_owned();
+    assert!(output.status.success() && reported.is_empty(), "{}: {reported}", output.status);
+    String::from_utf8(output.stdout).expect("bytes of a sheet")
+}

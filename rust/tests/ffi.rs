@@ -1,0 +1,109 @@
+//! The proved calls, from the static library, on the first cases of document 01.
+
+use noughtelm_tests::ffi::{self, Answer, Edge, EdgeBuffer, Told, Totals, MAX_OUTPUT};
+
+const TEXT: &[u8] = b"K\t2\t1\t10\nA\t1\t100\t2\t60\nA\t1\t90\n";
+const PRINTED: &[u8] =
+    b"P\t1\t2\t600\nP\t2\t1\t420\nY\t1\t570\nY\t2\t60\nT\t150\t1650\t7\nE\t150\n";
+const FIRST: [Edge; 2] = [Edge { item: 1, weight: 100 }, Edge { item: 2, weight: 60 }];
+const SECOND: [Edge; 1] = [Edge { item: 1, weight: 90 }];
+
+fn served(value: u64) -> Told {
+    Told { number: 0, place: 0, value }
+}
+
+fn refused(number: u64, place: u64) -> Told {
+    Told { number, place, value: 0 }
+}
+
+fn case_1() -> Answer {
+    let opened = ffi::open(2, 1, 10);
+    assert_eq!(opened.told(), served(0));
+    let first = ffi::arrive(opened.board, &FIRST);
+    assert_eq!(first.told(), served(1));
+    let second = ffi::arrive(first.board, &SECOND);
+    assert_eq!(second.told(), served(6));
+    second
+}
+
+#[test]
+fn case_1_by_calls() {
+    let board = case_1().board;
+    assert!(ffi::is_sound(board));
+    assert_eq!((board.items, board.arrived, board.slack.p, board.slack.q), (2, 2, 1, 10));
+    let (mut plan, mut prices, mut gains) = ([9; 3], [9; 3], [9; 3]);
+    let told = ffi::read_out(board, &mut plan, &mut prices, &mut gains);
+    assert_eq!((told, plan, prices, gains), (served(0), [2, 1, 9], [570, 60, 9], [600, 420, 9]));
+}
+
+#[test]
+fn case_1_by_text() {
+    let replayed = ffi::replay(TEXT);
+    assert_eq!(replayed.told(), served(7));
+    assert_eq!(replayed.board, case_1().board);
+    let mut out = [7; MAX_OUTPUT];
+    let n = ffi::sheet_text(TEXT, &mut out);
+    assert_eq!(&out[..n], PRINTED);
+    assert!(out[n..].iter().all(|&b| b == 7));
+    let mut out = [7; 100];
+    assert_eq!(ffi::plan_text(TEXT, &mut out), served(PRINTED.len() as u64));
+    assert_eq!(&out[..PRINTED.len()], PRINTED);
+    let mut short = [7; 10];
+    assert_eq!((ffi::plan_text(TEXT, &mut short), short), (refused(8, 0), [7; 10]));
+}
+
+#[test]
+fn a_refused_text() {
+    let mut text = TEXT.to_vec();
+    text.extend_from_slice(b"W\t3\n");
+    let replayed = ffi::replay(&text);
+    assert_eq!(replayed.told(), Told { number: 4, place: 4, value: 7 });
+    assert_eq!(replayed.board, case_1().board);
+    let mut out = [7; 100];
+    assert_eq!((ffi::plan_text(&text, &mut out), out), (refused(4, 4), [7; 100]));
+    assert_eq!(ffi::refusal_line(4, 4, &mut out), served(6));
+    assert_eq!(&out[..7], b"R\t4\t4\n\x07");
+    let mut out = [7; MAX_OUTPUT];
+    assert_eq!(ffi::sheet_text(&text, &mut out), 6);
+    assert_eq!(&out[..7], b"R\t4\t4\n\x07");
+}
+
+#[test]
+fn withdrawals() {
+    let board = case_1().board;
+    let gone = ffi::withdraw(board, 1);
+    assert_eq!(gone.told(), served(0));
+    let again = ffi::withdraw(gone.board, 1);
+    assert_eq!((again.told(), again.board), (refused(5, 0), gone.board));
+    let (mut plan, mut prices, mut gains) = ([0; 2], [0; 2], [0; 2]);
+    ffi::read_out(gone.board, &mut plan, &mut prices, &mut gains);
+    assert_eq!((plan, prices, gains), ([2, 0], [0, 60], [600, 0]));
+}
+
+#[test]
+fn exact_and_check() {
+    let board = case_1().board;
+    let (mut plan, mut prices, mut gains) = ([0; 2], [0; 2], [0; 2]);
+    assert_eq!(ffi::exact(board, &mut plan, &mut prices, &mut gains), served(150));
+    let totals = Totals { number: 0, place: 0, weight: 150, total: 150 };
+    assert_eq!(ffi::check(board, &plan, &prices, &gains, 0, 1), totals);
+    assert_eq!(ffi::check(board, &[2, 1], &[40, 0], &[60, 50], 0, 1), totals);
+    let bare = Totals { number: 12, place: 1, weight: 0, total: 0 };
+    assert_eq!(ffi::check(board, &[2, 1], &[39, 0], &[60, 50], 0, 1), bare);
+    assert_eq!(ffi::exact(board, &mut [], &mut prices, &mut gains), refused(8, 0));
+}
+
+#[test]
+fn refusals_keep_the_board() {
+    assert_eq!(ffi::open(0, 1, 10).told(), refused(1, 0));
+    assert_eq!(ffi::open(1, 5, 5).told(), refused(2, 0));
+    let board = case_1().board;
+    let edges = [Edge { item: 1, weight: 5 }, Edge { item: 1, weight: 5 }];
+    let order = ffi::arrive(board, &edges);
+    assert_eq!((order.told(), order.board), (refused(7, 2), board));
+    let mut spoilt = board;
+    spoilt.withdrawn[0] = true;
+    assert!(!ffi::is_sound(spoilt));
+    let answer = ffi::arrive_buffer(spoilt, EdgeBuffer::new(&SECOND));
+    assert_eq!((answer.told(), answer.board), (refused(13, 0), spoilt));
+}

@@ -1,0 +1,127 @@
+//! Boards that are not sound, on both sides: each clause broken by itself, each
+//! unused cell, one number changed, any numbers at all. Every call that takes
+//! such a board answers 13 and changes no byte.
+
+use noughtelm_tests::both::{rooms, wide, Both, Same, Tally};
+use noughtelm_tests::gen::board::{self, Unused};
+use noughtelm_tests::gen::list::rising;
+use noughtelm_tests::model::auction::*;
+use noughtelm_tests::model::check::Claim;
+use noughtelm_tests::model::refusal::*;
+use noughtelm_tests::model::sound::Record;
+use noughtelm_tests::rng::Rng;
+
+const CALLS: [&str; 5] = ["arrive", "withdraw", "read out", "exact", "check"];
+
+fn empty_claim(slack: Slack) -> Claim {
+    Claim { matching: vec![], price: vec![], gain: vec![], slack }
+}
+
+/// All that may be asked of a board; how many calls answered 13.
+fn ask(both: &mut Both, rng: &mut Rng) -> Same<u64> {
+    both.is_sound()?;
+    let mut spoilt = 0;
+    let mut note = |number: Option<Refusal>| {
+        spoilt += (number == Some(Refusal { number: SPOILT, place: 0 })) as u64
+    };
+    let length = rng.pick(&[0, 1, 5, 64, 65]);
+    note(both.arrive(&rising(rng, length))?.err());
+    let item = rng.pick(&[0, 1, 2, 64, 65, u64::MAX]);
+    note(both.withdraw(item)?.err());
+    let room = rooms(rng, &both.model);
+    note(both.read_out(room)?.err());
+    let room = if rng.chance(1, 2) { wide() } else { [0; 3] };
+    note(both.exact(room)?.err());
+    let slack = rng.pick(&[both.model.slack, Slack { p: 0, q: 1 }, Slack { p: 5, q: 5 }]);
+    note(both.check(&empty_claim(slack))?.err());
+    Ok(spoilt)
+}
+
+fn assert_spoilt(record: &Record, rng: &mut Rng, seen: &mut Tally, what: &dyn Fn() -> String) {
+    let mut both = Both::on(record.clone(), seen);
+    match ask(&mut both, rng) {
+        Ok(spoilt) => assert_eq!(spoilt, CALLS.len() as u64, "{}\n{record:?}", what()),
+        Err(found) => panic!("{}: {found}\n{record:?}", what()),
+    }
+}
+
+#[test]
+fn every_clause_counts() {
+    for (clause, spoil) in board::SPOILS {
+        let mut seen = Tally::default();
+        for seed in 31_000..31_300 {
+            let rng = &mut Rng::new(seed);
+            let mut record = board::sound(rng);
+            if spoil(rng, &mut record) {
+                assert_spoilt(&record, rng, &mut seen, &|| format!("{clause}, seed {seed}"));
+            }
+        }
+        CALLS.iter().for_each(|call| seen.assert_seen(call, &[SPOILT], 50));
+        seen.assert_seen("sound", &[1], 50);
+    }
+}
+
+/// The cells past the items and past the bidders, on boards of several sizes.
+#[test]
+fn every_unused_cell_counts() {
+    let (mut seen, mut kinds) = (Tally::default(), [0; 5]);
+    for seed in 32_000..32_004 {
+        let rng = &mut Rng::new(seed);
+        let sound = (0..).map(|_| board::sound(rng)).find(|r| r.items < 64 && r.arrived < 128);
+        let sound = sound.unwrap();
+        for cell in board::unused_cells(&sound) {
+            let mut record = sound.clone();
+            let number = rng.pick(&[1, 1, 127, 255, 255 << 24]);
+            cell.fill(&mut record, if matches!(cell, Unused::Holder(_)) { 1 } else { number });
+            assert_spoilt(&record, rng, &mut seen, &|| format!("{cell:?}, seed {seed}"));
+            kinds[match cell {
+                Unused::Price(_) => 0,
+                Unused::Holder(_) => 1,
+                Unused::Withdrawn(_) => 2,
+                Unused::Gain(_) => 3,
+                Unused::Weight(..) => 4,
+            }] += 1;
+        }
+    }
+    println!("cells by kind: {kinds:?}");
+    assert!(kinds.iter().all(|&cells| cells > 50));
+    CALLS.iter().for_each(|call| seen.assert_seen(call, &[SPOILT], 10_000));
+}
+
+/// One to three numbers of a sound board changed: some boards stay sound.
+#[test]
+fn changed_numbers() {
+    let mut seen = Tally::default();
+    for seed in 33_000..41_000 {
+        let rng = &mut Rng::new(seed);
+        let mut record = board::sound(rng);
+        (0..rng.range(1, 3)).for_each(|_| board::nudge(rng, &mut record));
+        let mut both = Both::on(record.clone(), &mut seen);
+        if let Err(found) = ask(&mut both, rng) {
+            panic!("seed {seed}: {found}\n{record:?}");
+        }
+    }
+    println!("{seen:?}");
+    seen.assert_seen("sound", &[0, 1], 500);
+    seen.assert_seen("arrive", &[0, SPOILT, FULL, UNKNOWN, GONE], 1);
+    seen.assert_seen("withdraw", &[0, SPOILT, UNKNOWN, GONE], 20);
+    seen.assert_seen("read out", &[0, SPOILT, SHORT], 100);
+    seen.assert_seen("exact", &[0, SPOILT, SHORT], 100);
+    seen.assert_seen("check", &[0, SPOILT, SLACK, UNEVEN], 2);
+}
+
+#[test]
+fn any_numbers() {
+    let mut seen = Tally::default();
+    for seed in 42_000..52_000 {
+        let rng = &mut Rng::new(seed);
+        let record = board::random(rng);
+        let mut both = Both::on(record.clone(), &mut seen);
+        if let Err(found) = ask(&mut both, rng) {
+            panic!("seed {seed}: {found}\n{record:?}");
+        }
+    }
+    println!("{seen:?}");
+    assert!(CALLS.iter().all(|call| seen.of(call, SPOILT) > 9_000));
+    assert!(seen.of("sound", 1) > 9_000);
+}

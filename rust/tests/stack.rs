@@ -1,0 +1,93 @@
+//! The deepest alternating paths of the exact level: in a thread with a stack of
+//! 2 MB by call, and in the program under a limit of 1 MB.
+
+use noughtelm_tests::both::{board, shown, wide, Both, Tally};
+use noughtelm_tests::ffi::{self, MAX_OUTPUT};
+use noughtelm_tests::gen::history::{level, slope, staircase, staircase_down, Call, History};
+use noughtelm_tests::gen::text::write;
+use noughtelm_tests::model::auction::Auction;
+use noughtelm_tests::model::sound::to_record;
+use noughtelm_tests::model::text::sheet;
+use noughtelm_tests::program;
+use std::thread;
+
+/// Paths over every item, for 2 to 64 items, and sheets on which every item is seen.
+fn deep_histories() -> Vec<History> {
+    let makers: [fn(u64) -> History; 3] = [staircase, staircase_down, slope];
+    let mut all: Vec<History> = makers.iter().flat_map(|make| (2..=64).map(make)).collect();
+    all.extend([64, 65, 66, 128].map(|bidders| level(64, bidders)));
+    all
+}
+
+fn auction_of(history: &History) -> Auction {
+    let mut auction = Auction::open(history.items, history.slack).expect("it opens");
+    for call in &history.calls {
+        match call {
+            Call::Arrive(edges) => auction.arrive(edges),
+            Call::Withdraw(item) => auction.withdraw(*item),
+        }
+        .expect("a good call");
+    }
+    auction
+}
+
+/// 64 bidders at 64 items in a row. Without the last, each may hold the lower of
+/// its items; with it, every one of them holds the higher.
+#[test]
+fn every_bidder_moves_on() {
+    for (history, moved) in [
+        (staircase(64), (2..=64).chain([1]).collect::<Vec<u64>>()),
+        (staircase_down(64), (2..=64).rev().chain([1]).collect()),
+    ] {
+        let mut lists = wide().map(|room| vec![0; room]);
+        let [m, y, g] = &mut lists;
+        let told = ffi::exact(board(&to_record(&auction_of(&history))), m, y, g);
+        assert_eq!((told.number, told.value), (0, 6_400));
+        assert_eq!(m[..64], moved);
+    }
+}
+
+fn in_a_small_thread<T: Send + 'static>(work: impl FnOnce() -> T + Send + 'static) -> T {
+    let thread = thread::Builder::new().stack_size(2 << 20).spawn(work).expect("a thread");
+    thread.join().expect("the thread ends well")
+}
+
+#[test]
+fn calls_in_a_thread_of_2_mb() {
+    let tried = in_a_small_thread(|| {
+        let mut seen = Tally::default();
+        for history in deep_histories() {
+            let mut both = Both::on(to_record(&auction_of(&history)), &mut seen);
+            let found = both.exact(wide());
+            found.unwrap_or_else(|found| panic!("{found}\n{history:?}")).expect("room");
+        }
+        seen.of("exact", 0)
+    });
+    assert_eq!(tried, 3 * 63 + 4);
+}
+
+#[test]
+fn texts_in_a_thread_of_2_mb() {
+    let tried = in_a_small_thread(|| {
+        let mut tried = 0;
+        for text in deep_histories().iter().map(write) {
+            let mut out = Box::new([0; MAX_OUTPUT]);
+            let length = ffi::sheet_text(&text, &mut out);
+            assert_eq!(shown(&out[..length]), shown(&sheet(&text)));
+            tried += 1;
+        }
+        tried
+    });
+    assert_eq!(tried, 3 * 63 + 4);
+}
+
+#[test]
+fn program_under_a_limit_of_1_mb() {
+    let mut tried = 0;
+    for text in deep_histories().iter().map(write) {
+        let output = program::run(program::command("ulimit -s 1024 &&", ""), &text);
+        assert_eq!(program::printed(output), shown(&sheet(&text)), "{:?}", shown(&text));
+        tried += 1;
+    }
+    assert_eq!(tried, 3 * 63 + 4);
+}
