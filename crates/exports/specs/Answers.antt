@@ -1,4 +1,5 @@
--- What each call's answer is told as, in numbers. The calls' own meanings stand in the crates that they come from.
+-- What each call's answer is told as, in numbers: "Where an answer is an enum, a definition states this paper's number and values for each of its
+-- cases". The calls' own meanings stand in the crates that they come from.
 use mathlib.Core.Path.{_≡_}
 use mathlib.Core.List.{List}
 use Prim.Native.Nat.{ℕ}

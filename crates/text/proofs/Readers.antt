@@ -1,9 +1,10 @@
 -- The types of a `Reader` and of a `Field`, as the walks over them take them. Assumes nothing.
+use Prim.Native.Nat.{_<_}
 use lib.Dec.{T as Holds}
 use denote.Enum.Laws as EL
 use denote.Laws.{Copy, Makes}
 use denote.Struct.Laws as LL
-use Rattle.walks.proofs.Walks.{_<_, _^_, _∷_, [], URA, Heap, Atoms, Given, Lft, Val, WT, hasTy, erased, Is, RattleType, NamedLft, namedLft, Declared}
+use Rattle.walks.proofs.Walks.{_^_, _∷_, [], URA, Heap, Atoms, Given, Lft, Val, WT, hasTy, erased, Is, RattleType, NamedLft, namedLft, Declared}
 use Rattle.text.specs.declared.reader.Reader.{Reader}
 use Rattle.text.specs.declared.scan.Field.{Field}
 use Rattle.text.proofs.reader.Reader as R

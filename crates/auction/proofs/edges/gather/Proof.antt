@@ -1,12 +1,12 @@
 -- `edges::gather` meets its contract: a walk by hand. Each turn of the loop looks into the slice, copies edge i, shuts it and calls `push`.
-use Prim.Native.Nat.{zero, suc, _*_, _-_, min}
+use Prim.Native.Nat.{_+_, _<_, zero, suc, _*_, _-_, min}
 use native.Mathlib.Omega.{arith}
-use mathlib.Core.Path.{subst}
+use mathlib.Core.Path.{_≡_, subst}
 use mathlib.Core.Bool.{Bool}
 use mathlib.Core.Logic.{_⊎_, inl, inr, ⊎-elim}
 use mathlib.Core.WellFounded.{InvImage·wf}
 use lib.Dec.{lit<}
-use lib.ListN.{getD, take}
+use lib.ListN.{length, getD, take}
 use lib.WfN.{Nat·lt-wfRel}
 use mir.Syntax.{Ty, imm, tyInt, tyBool, tyPtr, tyRef}
 use mir.Val.{vbool, vptr}
@@ -23,8 +23,8 @@ use denote.Index.{place-is, elem-out, elem-back, looks-slice, shuts-slice}
 use denote.Slice.{sliceTy}
 use denote.Struct.Laws as LL
 use borrow.Author.Tests.{lt-ltb, le-ltb}
-use Rattle.walks.proofs.Walks.{_≡_, refl, sym, _∙_, ℕ, _+_, _<_, _^_, List, [], _∷_, URA, fullShare, named, w64, Val, vint, SProp, ent, id⊢, Lft, Share, Fml, Routine, Heap, length}
-use Rattle.walks.proofs.Walks.{WpFn, Atoms, FmC, Fun, givenOf, Given, ‵, raw, _$_, _∵_, !, qed, by, move, drop, use2, fsplit, fjoin, look, init, stop}
+use Rattle.walks.proofs.Walks.{refl, sym, _∙_, ℕ, _^_, List, [], _∷_, URA, fullShare, named, w64, Val, vint, SProp, ent, id⊢, Lft, Share, Fml, Routine, Heap}
+use Rattle.walks.proofs.Walks.{WpFn, Atoms, FmC, Fun, givenOf, Given, ‵, raw, _$_, _∵_, !, qed, by, move, let-go, use2, fsplit, fjoin, look, init, stop}
 use Rattle.walks.proofs.Walks.{from, load, of-opd, and-then, no-more, assigns, land, returns, enter, params1, pass1, pass0, free0, RattleType}
 use Rattle.walks.proofs.Walks.{owns, Is, owned, nothing, Triple, Vals, alive, onEntry, cited, Clauses, Memory, uint-tells, RefT}
 use Rattle.walks.proofs.Walks.{uint-makes, uint-lawful, sliceVal, ShrSlice, slice-vals, shr-slice-tells, shr-slice-lawful, shr-slice-copy}
@@ -192,7 +192,7 @@ module _ {M : Type 1} (𝓤 : URA M) (H : Heap 𝓤) (A : Atoms 𝓤) (W : Given
             assigns ! (bin ! (loc ! 12 refl) (loc ! 16 refl) tt) (here !) (init ! 8 refl (tt, tt)) $
             rewrite ! 8 (λ (t : Bool). ‵ (fat fullShare tyBool l₆ 0 (vbool t))) (lt-ltb (x .i) m small) refl $ stays ! (loc ! 8 refl) $
             -- the slice is Copy: one copy is kept, and the other is looked into
-            move ! (1 ∷ []) $ twice ! (Edges κ) (shr-slice-copy 𝓤 H A W (named 0) κ E.the-row) s (v ∷ []) $ fsplit ! $ drop ! $ fsplit ! $ drop ! $ move ! (0 ∷ 2 ∷ []) $
+            move ! (1 ∷ []) $ twice ! (Edges κ) (shr-slice-copy 𝓤 H A W (named 0) κ E.the-row) s (v ∷ []) $ fsplit ! $ let-go ! $ fsplit ! $ let-go ! $ move ! (0 ∷ 2 ∷ []) $
             looks-slice ! tt E.the-row (Is E.the-row) (shows 𝓤 H A E.the-row) (LL.vals E.the-type E′.the-laws) (LL.tells E.the-type E′.the-laws) (LL.copy E.the-type E′.the-copy 𝓤 H A W) ys b o (λ q′.
             elem-out ! E.the-row (Is E.the-row) (shows 𝓤 H A E.the-row) (LL.vals E.the-type E′.the-laws) (LL.tells E.the-type E′.the-laws) q′ ys (x .i) (edge 0 0) b o (in-range x small) (λ g.
             -- [edge i; what it owns; the others; what shuts; the borrow; what edges owns; _9 at 6; _8; _7 at 10; _6; _5; _4 at 16; _3; _2; _1 at 22; …]
@@ -200,7 +200,7 @@ module _ {M : Type 1} (𝓤 : URA M) (H : Heap 𝓤) (A : Atoms 𝓤) (W : Given
             assigns ! (bin ! (dot ! 22 0 refl refl refl) (loc ! 10 refl) tt) (here !) (init ! 8 refl (tt, tt)) $
             rewrite ! 8 (λ (p : ℕ). ‵ (fat fullShare tyPtr l₈ 0 (vptr b p))) (sym (place-is 16 o (x .i))) refl $
             assigns ! (of-opd ! (load ! (from ! (hop ! (look ! 8 refl) (stop !))) (look-raw ! 0 refl))) (here !) (init ! 6 refl (LL.lawful E.the-type E′.the-laws 𝓤 H A W .typed (it x) _ g .0)) $
-            elem-back ! E.the-row q′ ys (x .i) (edge 0 0) (LL.vals E.the-type E′.the-laws (it x)) b o (in-range x small) $ shuts-slice ! tt E.the-row q′ ys b o $ move ! (1 ∷ []) $ drop ! $
+            elem-back ! E.the-row q′ ys (x .i) (edge 0 0) (LL.vals E.the-type E′.the-laws (it x)) b o (in-range x small) $ shuts-slice ! tt E.the-row q′ ys b o $ move ! (1 ∷ []) $ let-go ! $
             -- [as before the turn]
             calls-plain ! fm push.ended (push.clauses 𝓤 H A mem run) k-push (to-push (x .buffer) (x .val) (it x) (LL.val E.the-type E′.the-laws (it x))) (id⊢ 𝓤 _) (id⊢ 𝓤 _)
             (LL.makes R.the-type R′.the-plain 𝓤 H A, (LL.makes E.the-type E′.the-plain 𝓤 H A, tt)) (x .is, (g, tt)) (λ r. r ≡ pushed (x .buffer) (it x)) (λ r ws. id⊢ 𝓤 _)
@@ -245,7 +245,7 @@ module _ {M : Type 1} (𝓤 : URA M) (H : Heap 𝓤) (A : Atoms 𝓤) (W : Given
           calls-plain ! fm empty.ended (empty.clauses 𝓤 H A mem run) k-empty to-empty (id⊢ 𝓤 _) (id⊢ 𝓤 _) tt tt (λ r. r ≡ emptyBuffer) (λ r ws. id⊢ 𝓤 _) (no-more !) (λ z r er ir.
           land ! (here !) (init ! 12 refl (LL.lawful R.the-type R′.the-laws 𝓤 H A W .typed r _ ir .0)) $
           assigns ! (of-opd ! (lit ! tt)) (here !) (init ! 10 refl (tt, record { fits = lit< tt })) $
-          move ! (21 ∷ []) $ fsplit ! $ move ! (22 ∷ []) $ split ! $ move ! (1 ∷ []) $ drop ! $ move ! (2 ∷ []) $ drop ! $
+          move ! (21 ∷ []) $ fsplit ! $ move ! (22 ∷ []) $ split ! $ move ! (1 ∷ []) $ let-go ! $ move ! (2 ∷ []) $ let-go ! $
           by ! (loops m em (first-state m em r z er ir))))
 
   walk : (𝓣 : Tables 𝓤 H) → FmC 𝓤 H (W .laws) (𝓣 .C) → Triple 𝓤 (𝓣 .C enough-def.name) (Ask 𝓤 H A enough.ended (enough.clauses 𝓤 H A mem run))

@@ -1,11 +1,14 @@
 -- `reader::take_at` meets its contract: a walk by hand. A `Reader` is made, read and moved past the field, and `ended` is called on its position.
 -- The proof knows only the contracts of what is called.
 -- Assumes nothing.
+use lib.ListN.{length}
+use Prim.Native.Nat.{_<_}
+use mathlib.Core.Path.{_≡_}
 use denote.Struct.Laws as LL
-use Rattle.walks.proofs.Walks.{_≡_, refl, ap, _∙_, ℕ, _<_, _^_, List, [], _∷_, URA, named, w64, Val, vint, SProp, ent, id⊢, Lft, Share, Routine, Heap}
-use Rattle.walks.proofs.Walks.{Calls, Loops, WpFn, Atoms, FmC, Fun, givenOf, Given, ‵, raw, _$_, _∵_, !, qed, move, drop, fsplit, fjoin, look, init}
+use Rattle.walks.proofs.Walks.{refl, ap, _∙_, ℕ, _^_, List, [], _∷_, URA, named, w64, Val, vint, SProp, ent, id⊢, Lft, Share, Routine, Heap}
+use Rattle.walks.proofs.Walks.{Calls, Loops, WpFn, Atoms, FmC, Fun, givenOf, Given, ‵, raw, _$_, _∵_, !, qed, move, let-go, fsplit, fjoin, look, init}
 use Rattle.walks.proofs.Walks.{of-opd, and-then, no-more, assigns, land, returns, enter, params1, pass1, pass0, free0, owns, Is, owned, nothing}
-use Rattle.walks.proofs.Walks.{Triple, Vals, alive, onEntry, cited, Clauses, length, Memory, uint-vals, uint-tells, uint-makes, u8, usize, RefT, now}
+use Rattle.walks.proofs.Walks.{Triple, Vals, alive, onEntry, cited, Clauses, Memory, uint-vals, uint-tells, uint-makes, u8, usize, RefT, now}
 use Rattle.walks.proofs.Walks.{sliceVal, ShrSlice, slice-vals, shr-slice-tells, shr-slice-lawful, shr-slice-copy, truly, Walk, leaves, meets}
 use Rattle.walks.proofs.Walks.{makes-locals, here, loc, dot, gone, told, twice, Ask, calls, calls-plain}
 use Rattle.text.specs.Number.{fieldAt}
@@ -86,13 +89,13 @@ module _ {M : Type 1} (𝓤 : URA M) (H : Heap 𝓤) (A : Atoms 𝓤) (W : Given
       twice ! (reader κ) (reader-copy κ 𝓤 H A W) r (u ∷ []) $ assigns ! (of-opd ! (loc ! 14 refl)) (here !) (init ! 8 refl (reader-typed κ 𝓤 H A W r u is)) $
       nothing ! $ move ! (1 ∷ 0 ∷ []) $ fjoin ! $ move ! (0 ∷ 2 ∷ []) $
       -- [what current's parameter owns; the token; what the reader owns; what is owned; _8 at 4; …; _6 at 8; …]
-      calls ! fm current.ended (current.clauses 𝓤 H A mem run) known-current (to-current r u) (id⊢ 𝓤 _) (λ f. f ≡ fieldAt (now (r .text)) (r .at)) (λ f ws. id⊢ 𝓤 _) (and-then ! (loc ! 8 refl) (no-more !)) (λ w f e′ is′. drop ! $
+      calls ! fm current.ended (current.clauses 𝓤 H A mem run) known-current (to-current r u) (id⊢ 𝓤 _) (λ f. f ≡ fieldAt (now (r .text)) (r .at)) (λ f ws. id⊢ 𝓤 _) (and-then ! (loc ! 8 refl) (no-more !)) (λ w f e′ is′. let-go ! $
       -- [the token; what the reader owns; what is owned; _8 at 3; …; _7 at 5; …; _4 at 11; …; _3 at 13; …]
       land ! (here !) (init ! 11 refl (field-typed 𝓤 H A W f w is′)) $ assigns ! (of-opd ! (loc ! 13 refl)) (here !) (init ! 5 refl (reader-typed κ 𝓤 H A W r u is)) $
       nothing ! $ owned ! F.the-row (Is F.the-row) (field-makes 𝓤 H A W) f _ is′ $ fjoin ! $ move ! (2 ∷ 0 ∷ []) $ fjoin ! $
       -- [what past's parameters own; the token; what is owned; _8 at 3; …; _7 at 5; …; _4 at 11; …]
       calls ! fm past.ended (past.clauses 𝓤 H A mem run) known-past (to-past r u f w) (id⊢ 𝓤 _) (λ r′. (r′ .text ≡ r .text) × (r′ .at ≡ afterOf f (r .at))) (λ r′ ws. id⊢ 𝓤 _)
-      (and-then ! (loc ! 5 refl) (and-then ! (loc ! 11 refl) (no-more !))) (λ u′ r′ e″ is″. drop ! $
+      (and-then ! (loc ! 5 refl) (and-then ! (loc ! 11 refl) (no-more !))) (λ u′ r′ e″ is″. let-go ! $
       -- [the token; what is owned; _8 at 2; …; _5 at 8; …; _4 at 10; …; _0 at 18; …]
       land ! (here !) (init ! 8 refl (reader-typed κ 𝓤 H A W r′ u′ is″)) $ told ! 8 (LL.tells (reader-type κ) (reader-laws κ) r′ _ is″) refl $
       assigns ! (of-opd ! (dot ! 8 1 refl refl refl)) (here !) (init ! 2 refl (tt, record { fits = reader-fits κ r′ u′ is″ })) $

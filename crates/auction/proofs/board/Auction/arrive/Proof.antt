@@ -1,9 +1,10 @@
 -- `Auction::arrive` meets its contract: a walk by hand. It calls `gather` on the slice, and `arrive_buffer` on the board and the buffer.
 -- The slice is Copy: what it owns is had twice, and one copy is kept for the exit.
-use lib.ListN.{take}
+use mathlib.Core.Path.{_≡_}
+use lib.ListN.{length, take}
 use denote.Struct.Laws as LL
-use Rattle.walks.proofs.Walks.{_≡_, refl, sym, ap, _∙_, List, [], _∷_, URA, named, Val, SProp, ent, id⊢, Lft, Share, Routine, Heap, Calls, Loops, length}
-use Rattle.walks.proofs.Walks.{WpFn, Atoms, FmC, Fun, givenOf, Given, ‵, raw, _$_, _∵_, !, qed, move, drop, fsplit, fjoin, look, init}
+use Rattle.walks.proofs.Walks.{refl, sym, ap, _∙_, List, [], _∷_, URA, named, Val, SProp, ent, id⊢, Lft, Share, Routine, Heap, Calls, Loops}
+use Rattle.walks.proofs.Walks.{WpFn, Atoms, FmC, Fun, givenOf, Given, ‵, raw, _$_, _∵_, !, qed, move, let-go, fsplit, fjoin, look, init}
 use Rattle.walks.proofs.Walks.{and-then, no-more, land, returns, enter, params1, pass1, pass0, free0, RattleType}
 use Rattle.walks.proofs.Walks.{owns, Is, owned, nothing, Triple, Vals, alive, onEntry, cited, Clauses, Memory, RefT, now}
 use Rattle.walks.proofs.Walks.{sliceVal, ShrSlice, slice-vals, shr-slice-tells, shr-slice-lawful, shr-slice-copy}
@@ -71,9 +72,9 @@ module _ {M : Type 1} (𝓤 : URA M) (H : Heap 𝓤) (A : Atoms 𝓤) (W : Given
       makes-locals ! (λ ls. params1 ! $
       pass1 ! (init ! 4 refl (LL.lawful B.the-type B′.the-laws 𝓤 H A W .typed b _ ib .0)) $ pass1 ! (init ! 2 refl (shr-slice-lawful 𝓤 H A W (named 0) κ E.the-row .typed s (v ∷ []) is .0)) $ pass0 ! $
       -- [_3; …; _2 at 2; …; _1 at 4; …; _0 at 6; …; the token at 8; what is owned]
-      move ! (9 ∷ []) $ fsplit ! $ drop ! $ fsplit ! $ twice ! (Edges κ) (shr-slice-copy 𝓤 H A W (named 0) κ E.the-row) s (v ∷ []) $ move ! (0 ∷ 2 ∷ []) $ fjoin ! $ move ! (0 ∷ 10 ∷ []) $
+      move ! (9 ∷ []) $ fsplit ! $ let-go ! $ fsplit ! $ twice ! (Edges κ) (shr-slice-copy 𝓤 H A W (named 0) κ E.the-row) s (v ∷ []) $ move ! (0 ∷ 2 ∷ []) $ fjoin ! $ move ! (0 ∷ 10 ∷ []) $
       -- [what gather's slice owns; the token; what edges owns; _3 at 3; …; _2 at 5; …]
-      calls ! fm gather.ended (gather.clauses 𝓤 H A mem run) k-gather to-gather (id⊢ 𝓤 _) (λ r. bufferEdges r ≡ take maxEdges (now s)) (λ r ws. id⊢ 𝓤 _) (and-then ! (loc ! 5 refl) (no-more !)) (λ u r e ir. drop ! $
+      calls ! fm gather.ended (gather.clauses 𝓤 H A mem run) k-gather to-gather (id⊢ 𝓤 _) (λ r. bufferEdges r ≡ take maxEdges (now s)) (λ r ws. id⊢ 𝓤 _) (and-then ! (loc ! 5 refl) (no-more !)) (λ u r e ir. let-go ! $
       -- [the token; what edges owns; _3 at 2; …; _2 at 4; …; _1 at 6; …; _0 at 8; …]
       land ! (here !) (init ! 2 refl (LL.lawful R.the-type R′.the-laws 𝓤 H A W .typed r _ ir .0)) $
       calls-plain ! fm serve.ended (serve.clauses 𝓤 H A mem run) k-serve (to-serve r u) (id⊢ 𝓤 _) (id⊢ 𝓤 _) (LL.makes B.the-type B′.the-plain 𝓤 H A, (LL.makes R.the-type R′.the-plain 𝓤 H A, tt)) (ib, (ir, tt))

@@ -1,12 +1,14 @@
 -- `reader::Reader::current` meets its contract: a walk by hand. The struct is taken apart, and `field_at` is called on the slice and the position.
 -- Assumes nothing.
+use lib.ListN.{length}
+use mathlib.Core.Path.{_≡_}
 use lib.Dec.{T as Holds}
 use denote.Struct.Laws as LL
 use denote.Struct.Rest.{all-own, own-open}
-use Rattle.walks.proofs.Walks.{_≡_, refl, [], _∷_, URA, named, w64, Val, WT, hasTy, vint, SProp, ent, id⊢, Lft, Share, Routine, Heap, Calls, Loops}
+use Rattle.walks.proofs.Walks.{refl, [], _∷_, URA, named, w64, Val, WT, hasTy, vint, SProp, ent, id⊢, Lft, Share, Routine, Heap, Calls, Loops}
 use Rattle.walks.proofs.Walks.{WpFn, Atoms, FmC, Fun, givenOf, Given, ‵, raw, given, learn, _$_, _∵_, !, qed, move, use1, fsplit, fjoin, look, init}
 use Rattle.walks.proofs.Walks.{of-opd, and-then, no-more, assigns, land, returns, enter, params1, pass1, pass0, free0, owns, Triple, alive, onEntry}
-use Rattle.walks.proofs.Walks.{cited, Clauses, length, Memory, now, sliceVal, truly, Walk, leaves, meets, makes-locals, here, loc, dot, gone, twice}
+use Rattle.walks.proofs.Walks.{cited, Clauses, Memory, now, sliceVal, truly, Walk, leaves, meets, makes-locals, here, loc, dot, gone, twice}
 use Rattle.walks.proofs.Walks.{Ask, calls}
 use Rattle.text.specs.Number.{fieldAt}
 use Rattle.text.specs.declared.reader.Reader.{Reader}

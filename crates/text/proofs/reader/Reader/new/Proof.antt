@@ -1,9 +1,11 @@
 -- `reader::Reader::new` meets its contract: a walk by hand. The struct is made of the slice and the position passed.
 -- Assumes nothing.
+use lib.ListN.{length}
+use Prim.Native.Nat.{_<_}
 use denote.Struct.Rest.{own-shut}
-use Rattle.walks.proofs.Walks.{refl, ℕ, _<_, _^_, List, [], _∷_, URA, named, w64, Val, vint, SProp, ent, Lft, Share, Routine, Heap, Calls, Loops}
+use Rattle.walks.proofs.Walks.{refl, ℕ, _^_, List, [], _∷_, URA, named, w64, Val, vint, SProp, ent, Lft, Share, Routine, Heap, Calls, Loops}
 use Rattle.walks.proofs.Walks.{WpFn, Atoms, Fun, givenOf, Given, ‵, raw, _$_, _∵_, !, qed, move, use1, fsplit, fjoin, look, init, and-then, no-more}
-use Rattle.walks.proofs.Walks.{assigns, returns, enter, params1, pass1, pass0, free0, owns, Is, owned, nothing, Vals, alive, onEntry, Clauses, length}
+use Rattle.walks.proofs.Walks.{assigns, returns, enter, params1, pass1, pass0, free0, owns, Is, owned, nothing, Vals, alive, onEntry, Clauses}
 use Rattle.walks.proofs.Walks.{Memory, agg, uint-vals, uint-tells, uint-makes, u8, usize, RefT, sliceVal, ShrSlice, slice-vals, shr-slice-tells}
 use Rattle.walks.proofs.Walks.{shr-slice-lawful, shr-slice-copy, truly, Walk, leaves, meets, makes-locals, here, loc, gone, twice}
 use Rattle.text.specs.declared.reader.Reader.{Reader}

@@ -1,10 +1,11 @@
 -- `reader::Reader::past` meets its contract: a walk by hand. `after` says where the field ends, and the struct is made anew of the slice and that position.
 -- Assumes nothing.
+use mathlib.Core.Path.{_≡_}
 use lib.Dec.{T as Holds}
 use denote.Enum.Laws as EL
 use denote.Struct.Laws as LL
 use denote.Struct.Rest.{own-put}
-use Rattle.walks.proofs.Walks.{_≡_, refl, ℕ, [], _∷_, URA, named, w64, Val, WT, hasTy, vint, SProp, ent, id⊢, Lft, Share, Routine, Heap, Calls, Loops}
+use Rattle.walks.proofs.Walks.{refl, ℕ, [], _∷_, URA, named, w64, Val, WT, hasTy, vint, SProp, ent, id⊢, Lft, Share, Routine, Heap, Calls, Loops}
 use Rattle.walks.proofs.Walks.{WpFn, Atoms, FmC, Fun, givenOf, Given, ‵, raw, _$_, _∵_, !, qed, move, use2, fsplit, fjoin, look, init, of-opd}
 use Rattle.walks.proofs.Walks.{and-then, no-more, assigns, land, returns, enter, params1, pass1, pass0, free0, owns, Is, owned, Triple, Vals, alive}
 use Rattle.walks.proofs.Walks.{onEntry, cited, Clauses, Memory, agg, uint-tells, uint-makes, uint-lawful, usize, truly, Walk, leaves, meets}
