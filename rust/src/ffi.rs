@@ -45,10 +45,10 @@ pub struct Auction {
     pub items: u64,
     pub slack: Slack,
     pub arrived: u64,
+    pub withdrawn: [bool; MAX_ITEMS],
     pub price: [Scaled; MAX_ITEMS],
     /// The number of the bidder that holds each item, 0 where nobody does.
     pub holder: [u8; MAX_ITEMS],
-    pub withdrawn: [bool; MAX_ITEMS],
     pub gain: [Scaled; MAX_BIDDERS],
     /// Bidder i + 1's edge at item k + 1 is cell 64 × i + k, 0 where there is none.
     pub weights: [u32; MAX_CELLS],

@@ -1,29 +1,29 @@
 -- A buffer's two lists and the edges that they mean are tested alike and make the same row.
 use mathlib.Core.Path.{_≡_, refl, sym, ap, ap₂, _∙_}
 use mathlib.Core.Bool.{Bool, true}
-use mathlib.Core.List.{List, [], _∷_, _++_}
+use mathlib.Core.List.{List, [], _++_}
 use Prim.Native.Nat.{ℕ, zero, suc, _+_, _-_, _≤_, _<_, min}
 use native.Mathlib.Nat.{not-suc-le-zero}
 use native.Mathlib.Omega.{arith}
-use lib.ListN.{length, getD, set, length-append, List·getD-append}
+use lib.ListN.{length, getD, length-append, List·getD-append}
 use lib.Seq.{getD-at}
 use Rattle.duality.specs.Lists.{cells}
 use Rattle.duality.proofs.Below.{one-more}
-use Rattle.auction.specs.declared.board.Edge.{Edge}
-use Rattle.auction.specs.declared.board.Auction.{Auction}
+use Rattle.board.specs.declared.record.Edge.{Edge}
+use Rattle.board.specs.declared.record.Auction.{Auction}
 use Rattle.auction.specs.declared.edges.EdgeBuffer.{EdgeBuffer}
-use Rattle.auction.specs.declared.refusal.Refusal.{Refusal}
-use Rattle.auction.specs.declared.refusal.Verdict.{Verdict}
-use Rattle.auction.specs.declared.refusal.Verdict.the-variants.{Served, Refused}
-use Rattle.auction.specs.Rule.{Settled}
-use Rattle.auction.specs.declared.calls.Arrived.{Arrived}
-use Rattle.auction.specs.Limits.{maxBidders, maxEdges}
-use Rattle.auction.specs.Cells.{edge}
-use Rattle.auction.specs.SoundTest.{soundTest}
-use Rattle.auction.specs.Rule.{done}
-use Rattle.auction.specs.Calls.{arrivedOf, arriveOf}
+use Rattle.refusals.specs.declared.Refusal.{Refusal}
+use Rattle.refusals.specs.declared.Verdict.{Verdict}
+use Rattle.refusals.specs.declared.Verdict.the-variants.{Served, Refused}
+use Rattle.bidding.specs.Rule.{AfterChain, done}
+use Rattle.auction.specs.declared.arrive.Arrived.{Arrived}
+use Rattle.board.specs.Limits.{maxBidders, maxEdges}
+use Rattle.board.specs.Cells.{edge}
+use Rattle.board.specs.SoundTest.{soundTest}
+use Rattle.bidding.specs.Moves.{arrivedOf}
+use Rattle.auction.specs.Arrive.{arriveOf}
 use Rattle.auction.proofs.CallVerdicts.{arrive-refused, arrive-served, arrival-done}
-use Rattle.auction.specs.Refusals.{firstOf}
+use Rattle.refusals.specs.Demand1.{firstOf}
 use Rattle.auction.specs.Edges.{itemIn, weightIn, orderTest, edgeChecks, edgesChecks, rowTo, edgesFrom, bufferEdges}
 
 pub from-length : (xs ys : List ℕ) (n : ℕ) → length (edgesFrom xs ys n) ≡ n
@@ -72,7 +72,7 @@ module _ (xs ys : List ℕ) (n : ℕ) where
   same-item i l = sym (ap (λ (e : Edge). e .item) (from-cell xs ys n i l))
 
   same-weight : (i : ℕ) → i < n → cells ys i ≡ weightIn (edgesFrom xs ys n) i
-  same-weight i l = sym (ap (λ (e : Edge). e .weight) (from-cell xs ys n i l))
+  same-weight i l = sym (ap (λ (e : Edge). e .weight .0) (from-cell xs ys n i l))
 
   pub buffer-checks : (items : ℕ) (withdrawn : List Bool) → edgesChecks items withdrawn (cells xs) (cells ys) 0 n ≡
       edgesChecks items withdrawn (itemIn (edgesFrom xs ys n)) (weightIn (edgesFrom xs ys n)) 0 (length (edgesFrom xs ys n))
@@ -83,17 +83,17 @@ module _ (xs ys : List ℕ) (n : ℕ) where
   buffer-row = rw (from-length xs ys n) (row-as _ _ _ _ n same-item same-weight)
 
 -- An arrival over a buffer, of which n pairs count
-module _ (b : Auction) (buffer : EdgeBuffer) (n : ℕ) (en : n ≡ min (buffer .count) maxEdges) (s : soundTest b ≡ true) (l : b .arrived < maxBidders) where
-  verdict : edgesChecks (b .items) (b .withdrawn) (cells (buffer .items)) (cells (buffer .weights)) 0 n ≡
-      edgesChecks (b .items) (b .withdrawn) (itemIn (bufferEdges buffer)) (weightIn (bufferEdges buffer)) 0 (length (bufferEdges buffer))
-  verdict = rw en (buffer-checks (buffer .items) (buffer .weights) (min (buffer .count) maxEdges) (b .items) (b .withdrawn))
+module _ (b : Auction) (buffer : EdgeBuffer) (n : ℕ) (en : n ≡ min (buffer .count) maxEdges) (s : soundTest b ≡ true) (l : b .market .arrived < maxBidders) where
+  verdict : edgesChecks (b .market .items) (b .market .withdrawn) (cells (buffer .items)) (cells (buffer .weights)) 0 n ≡
+      edgesChecks (b .market .items) (b .market .withdrawn) (itemIn (bufferEdges buffer)) (weightIn (bufferEdges buffer)) 0 (length (bufferEdges buffer))
+  verdict = rw en (buffer-checks (buffer .items) (buffer .weights) (min (buffer .count) maxEdges) (b .market .items) (b .market .withdrawn))
 
-  pub buffer-refused : (v : Verdict) (r : Refusal) → v ≡ firstOf (edgesChecks (b .items) (b .withdrawn) (cells (buffer .items)) (cells (buffer .weights)) 0 n) →
+  pub buffer-refused : (v : Verdict) (r : Refusal) → v ≡ firstOf (edgesChecks (b .market .items) (b .market .withdrawn) (cells (buffer .items)) (cells (buffer .weights)) 0 n) →
       v ≡ Refused r → done (record { auction = b; answer = Arrived.Refused r }) ≡ arriveOf b (bufferEdges buffer)
   buffer-refused v r e f = sym (arrive-refused b (bufferEdges buffer) s l r (ap firstOf (sym verdict) ∙ sym e ∙ f))
 
-  pub buffer-served : (v : Verdict) → v ≡ firstOf (edgesChecks (b .items) (b .withdrawn) (cells (buffer .items)) (cells (buffer .weights)) 0 n) →
-      v ≡ Served → (row : List ℕ) (a : Settled) → row ≡ rowTo (cells (buffer .items)) (cells (buffer .weights)) n → done a ≡ arrivedOf b row →
+  pub buffer-served : (v : Verdict) → v ≡ firstOf (edgesChecks (b .market .items) (b .market .withdrawn) (cells (buffer .items)) (cells (buffer .weights)) 0 n) →
+      v ≡ Served → (row : List ℕ) (a : AfterChain) → row ≡ rowTo (cells (buffer .items)) (cells (buffer .weights)) n → done a ≡ arrivedOf b row →
       done (record { auction = a .auction; answer = Arrived.Bids (a .bids) }) ≡ arriveOf b (bufferEdges buffer)
   buffer-served v e f row a er ea =
       let same : row ≡ rowTo (itemIn (bufferEdges buffer)) (weightIn (bufferEdges buffer)) (length (bufferEdges buffer)) =

@@ -1,38 +1,41 @@
 -- Demand 1 of each call, from the one law of verdicts.
 use mathlib.Core.Path.{_≡_, refl, sym, ap, _∙_}
-use mathlib.Core.Logic.{_↔_}
-use mathlib.Core.Bool.{Bool, true, false, not}
-use mathlib.Core.List.{List, [], _∷_}
+use mathlib.Core.Bool.{true, false}
+use mathlib.Core.List.{List}
 use Prim.Native.Nat.{ℕ, zero, suc, _-_, _≤_}
 use native.Mathlib.Omega.{arith}
-use lib.ListN.{length, getD}
+use lib.ListN.{length}
 use Rattle.duality.specs.Decide.{Decides}
 use Rattle.duality.proofs.Decide.{reword, true-decides, le-decides, clash}
-use Rattle.auction.specs.declared.board.Auction.{Auction}
-use Rattle.auction.specs.declared.board.Edge.{Edge}
-use Rattle.auction.specs.declared.refusal.Refusal.{Refusal}
-use Rattle.auction.specs.declared.refusal.Refusal.the-variants.{Count, Slack, Full, Unknown, Gone, Worth, Order, Short, Spoilt}
-use Rattle.auction.specs.declared.refusal.Verdict.{Verdict}
-use Rattle.auction.specs.declared.refusal.Verdict.the-variants.{Served, Refused}
-use Rattle.auction.specs.Rule.{Settled}
-use Rattle.auction.specs.declared.calls.Opened.{Opened}
-use Rattle.auction.specs.declared.calls.Arrived.{Arrived}
-use Rattle.auction.specs.declared.calls.Arrival.{Arrival}
-use Rattle.auction.specs.declared.calls.Withdrawn.{Withdrawn}
-use Rattle.auction.specs.declared.calls.Withdrawal.{Withdrawal}
-use Rattle.auction.specs.declared.calls.ReadOut.{ReadOut}
-use Rattle.auction.specs.Limits.{maxItems, maxBidders, maxWeight}
-use Rattle.auction.specs.Cells.{withdrawnAt}
-use Rattle.auction.specs.Sound.{Sound, SlackIn}
-use Rattle.auction.specs.SoundTest.{soundTest}
-use Rattle.auction.specs.Rule.{Outcome, done, spent}
-use Rattle.auction.specs.Refusals.{firstOf, Within, Check, check, Demand1}
-use Rattle.auction.specs.Edges.{itemIn, weightIn, withinTest, orderTest, edgeChecks, edgesChecks, rowTo}
-use Rattle.auction.specs.Calls.{opened, slackTest, OpenMet, count, slack, openChecks, openBy, openOf, ArriveMet, arriveRest, arriveChecks, arrivalOf, arrivedOf, arriveBy, arriveOf, WithdrawMet, withdrawRest, withdrawChecks, withdrawalOf, withdrawnOf, withdrawBy, withdrawOf, Lists, Roomy, roomTest, ReadOutMet, readOutChecks, readOutBy, readOutOf, outcome}
+use Rattle.board.specs.declared.record.Auction.{Auction}
+use Rattle.board.specs.declared.record.Edge.{Edge}
+use Rattle.refusals.specs.declared.Refusal.{Refusal}
+use Rattle.refusals.specs.declared.Refusal.the-variants.{Count, Slack, Full, Unknown, Gone, Worth, Order, Spoilt}
+use Rattle.refusals.specs.declared.Verdict.{Verdict}
+use Rattle.refusals.specs.declared.Verdict.the-variants.{Served, Refused}
+use Rattle.bidding.specs.Rule.{AfterChain, Outcome, done, spent}
+use Rattle.board.specs.declared.opening.Opened.{Opened}
+use Rattle.auction.specs.declared.arrive.Arrived.{Arrived}
+use Rattle.auction.specs.declared.arrive.Arrival.{Arrival}
+use Rattle.auction.specs.declared.withdraw.Withdrawn.{Withdrawn}
+use Rattle.auction.specs.declared.withdraw.Withdrawal.{Withdrawal}
+use Rattle.auction.specs.declared.read_out.ReadOut.{ReadOut}
+use Rattle.board.specs.Limits.{maxItems, maxBidders, maxWeight}
+use Rattle.board.specs.Cells.{withdrawnAt}
+use Rattle.board.specs.Sound.{Sound}
+use Rattle.board.specs.Ranges.{SlackIn, Within}
+use Rattle.refusals.specs.Demand1.{firstOf, Check, Demand1}
+use Rattle.auction.specs.Edges.{itemIn, weightIn, orderTest, edgeChecks, edgesChecks}
+use Rattle.board.specs.Opening.{opened, OpenMet, count, slack, openChecks, openBy, openOf}
+use Rattle.auction.specs.ReadOut.{readOutBy, readOutOf}
+use Rattle.board.specs.Lent.{readOutChecks}
+use Rattle.auction.specs.Arrive.{ArriveMet, arriveRest, arriveChecks, arrivalOf, arriveBy, arriveOf}
+use Rattle.auction.specs.Withdraw.{WithdrawMet, withdrawRest, withdrawChecks, withdrawalOf, withdrawBy, withdrawOf}
 use Rattle.auction.specs.Demand1.{OpenDemand1, ArriveDemand1, WithdrawDemand1, ReadOutDemand1}
-use Rattle.auction.proofs.Tests.{no-decides, within-decides, slack-decides, room-decides, order-decides}
-use Rattle.auction.proofs.Verdicts.{Decided, ends, next, decided-append, demand-1}
-use Rattle.auction.proofs.SoundLaw.{sound-decides}
+use Rattle.board.proofs.Lending.{read-out-decided}
+use Rattle.board.proofs.Tests.{no-decides, within-decides, slack-decides}
+use Rattle.refusals.proofs.Verdicts.{Decided, ends, next, decided-append, demand-1}
+use Rattle.board.proofs.SoundLaw.{sound-decides}
 use Rattle.auction.proofs.Demand2.{arrive-ends, withdraw-ends}
 
 -- ---- Open
@@ -105,10 +108,10 @@ module _ (b : Auction) (edges : List Edge) where
   arrive-unsound : ArriveMet b edges Spoilt → Sound b → ⊥
   arrive-unsound (ArriveMet.spoilt f) = f
 
-  full-met : ArriveMet b edges Full → maxBidders ≤ b .arrived
+  full-met : ArriveMet b edges Full → maxBidders ≤ b .market .arrived
   full-met (ArriveMet.full l) = l
 
-  unknown-met : (i : ℕ) → ArriveMet b edges (Unknown (suc i)) → Within 1 (b .items) (itemIn edges i) → ⊥
+  unknown-met : (i : ℕ) → ArriveMet b edges (Unknown (suc i)) → Within 1 (b .market .items) (itemIn edges i) → ⊥
   unknown-met i (ArriveMet.unknown f) = f
 
   gone-met : (i : ℕ) → ArriveMet b edges (Gone (suc i)) → withdrawnAt b (itemIn edges i - 1) ≡ true
@@ -128,12 +131,12 @@ module _ (b : Auction) (edges : List Edge) where
       order-met : ArriveMet b edges (Order (suc (suc i))) → itemIn edges (suc i) ≤ itemIn edges i
       order-met (ArriveMet.order l) = l
 
-  edges-decided : (i n : ℕ) → Decided (ArriveMet b edges) (edgesChecks (b .items) (b .withdrawn) (itemIn edges) (weightIn edges) i n)
+  edges-decided : (i n : ℕ) → Decided (ArriveMet b edges) (edgesChecks (b .market .items) (b .market .withdrawn) (itemIn edges) (weightIn edges) i n)
   unfolding edgesChecks edgeChecks
   edges-decided i zero = ends
   edges-decided i (suc n) =
       decided-append
-      (next (reword (no-decides (within-decides (b .items) (itemIn edges i))) (λ f. ArriveMet.unknown f) (unknown-met i))
+      (next (reword (no-decides (within-decides (b .market .items) (itemIn edges i))) (λ f. ArriveMet.unknown f) (unknown-met i))
       (next (reword (true-decides (withdrawnAt b (itemIn edges i - 1))) (λ e. ArriveMet.gone e) (gone-met i))
       (next (reword (no-decides (within-decides maxWeight (weightIn edges i))) (λ f. ArriveMet.worth f) (worth-met i))
       (next (order-decided i) ends))))
@@ -143,14 +146,14 @@ module _ (b : Auction) (edges : List Edge) where
   unfolding arriveRest
   arrive-decided =
       next (reword (no-decides (sound-decides b)) (λ f. ArriveMet.spoilt f) arrive-unsound)
-      (next (reword (le-decides maxBidders (b .arrived)) (λ l. ArriveMet.full l) full-met)
+      (next (reword (le-decides maxBidders (b .market .arrived)) (λ l. ArriveMet.full l) full-met)
       (edges-decided 0 (length edges)))
 
 abbrev arrival : Auction → Arrived → Arrival
 arrival c a = record { auction = c; answer = a }
 
 -- What comes of a chain is a number of bids, if anything
-arrival-bids : (o : Outcome Settled) (a : Arrival) → arrivalOf o ≡ done a → (n : ℕ) × (a .answer ≡ Arrived.Bids n)
+arrival-bids : (o : Outcome AfterChain) (a : Arrival) → arrivalOf o ≡ done a → (n : ℕ) × (a .answer ≡ Arrived.Bids n)
 unfolding arrivalOf
 arrival-bids spent a e = let z : _≡_ {A = ℕ} 0 1 = cc in absurd (omega arith)
 arrival-bids (done s) a e = (s .bids, let h : arrival (s .auction) (Arrived.Bids (s .bids)) ≡ a = cc in sym (ap (λ x. x .answer) h))
@@ -173,7 +176,7 @@ module _ (b : Auction) (item : ℕ) where
   withdraw-unsound : WithdrawMet b item Spoilt → Sound b → ⊥
   withdraw-unsound (WithdrawMet.spoilt f) = f
 
-  unknown-item-met : WithdrawMet b item (Unknown 0) → Within 1 (b .items) item → ⊥
+  unknown-item-met : WithdrawMet b item (Unknown 0) → Within 1 (b .market .items) item → ⊥
   unknown-item-met (WithdrawMet.unknown f) = f
 
   gone-item-met : WithdrawMet b item (Gone 0) → withdrawnAt b (item - 1) ≡ true
@@ -183,14 +186,14 @@ module _ (b : Auction) (item : ℕ) where
   unfolding withdrawRest
   withdraw-decided =
       next (reword (no-decides (sound-decides b)) (λ f. WithdrawMet.spoilt f) withdraw-unsound)
-      (next (reword (no-decides (within-decides (b .items) item)) (λ f. WithdrawMet.unknown f) unknown-item-met)
+      (next (reword (no-decides (within-decides (b .market .items) item)) (λ f. WithdrawMet.unknown f) unknown-item-met)
       (next (reword (true-decides (withdrawnAt b (item - 1))) (λ e. WithdrawMet.gone e) gone-item-met) ends))
 
 abbrev withdrawal : Auction → Withdrawn → Withdrawal
 withdrawal c a = record { auction = c; answer = a }
 
 -- What comes of a chain is a number of bids, if anything
-withdrawal-bids : (o : Outcome Settled) (a : Withdrawal) → withdrawalOf o ≡ done a → (n : ℕ) × (a .answer ≡ Withdrawn.Bids n)
+withdrawal-bids : (o : Outcome AfterChain) (a : Withdrawal) → withdrawalOf o ≡ done a → (n : ℕ) × (a .answer ≡ Withdrawn.Bids n)
 unfolding withdrawalOf
 withdrawal-bids spent a e = let z : _≡_ {A = ℕ} 0 1 = cc in absurd (omega arith)
 withdrawal-bids (done s) a e = (s .bids, let h : withdrawal (s .auction) (Withdrawn.Bids (s .bids)) ≡ a = cc in sym (ap (λ x. x .answer) h))
@@ -208,24 +211,6 @@ withdraw-demand-1 b item =
     bids a e = let (n, h) = withdrawal-bids _ a e in (a .auction, n, rw (← h) refl)
 
 -- ---- Read out
-
-module _ (b : Auction) (l : Lists) where
-  read-unsound : ReadOutMet b l Spoilt → Sound b → ⊥
-  read-unsound (ReadOutMet.spoilt f) = f
-
-  short-met : ReadOutMet b l Short → Roomy b l → ⊥
-  short-met (ReadOutMet.short f) = f
-
-  pub roomy-decides : Decides (roomTest (b .arrived) (b .items) (length (l .plan)) (length (l .prices)) (length (l .gains))) (Roomy b l)
-  roomy-decides =
-      reword (room-decides _ _ _ _ _)
-      (λ h. record { plan = h .0; prices = h .1 .0; gains = h .1 .1 })
-      (λ h. (h .plan, (h .prices, h .gains)))
-
-  pub read-out-decided : Decided (ReadOutMet b l) (readOutChecks b l)
-  read-out-decided =
-      next (reword (no-decides (sound-decides b)) (λ f. ReadOutMet.spoilt f) read-unsound)
-      (next (reword (no-decides roomy-decides) (λ f. ReadOutMet.short f) short-met) ends)
 
 pub read-out-demand-1 : ReadOutDemand1
 unfolding readOutOf readOutBy

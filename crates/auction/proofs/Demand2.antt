@@ -8,36 +8,40 @@ use lib.ListN.{length}
 use borrow.Author.Tests.{not-false}
 use Rattle.duality.proofs.Tightness.{tightness}
 use Rattle.duality.proofs.Share.{share}
-use Rattle.auction.specs.declared.board.Auction.{Auction}
-use Rattle.auction.specs.declared.board.Edge.{Edge}
-use Rattle.auction.specs.declared.board.Holder.{Holder}
-use Rattle.auction.specs.declared.board.Holder.the-variants.{Held, Free}
-use Rattle.auction.specs.declared.refusal.Refusal.{Refusal}
-use Rattle.auction.specs.declared.refusal.Verdict.{Verdict}
-use Rattle.auction.specs.declared.refusal.Verdict.the-variants.{Served, Refused}
-use Rattle.auction.specs.declared.calls.Arrived.{Arrived}
-use Rattle.auction.specs.declared.calls.Arrival.{Arrival}
-use Rattle.auction.specs.declared.calls.Withdrawn.{Withdrawn}
-use Rattle.auction.specs.declared.calls.Withdrawal.{Withdrawal}
-use Rattle.auction.specs.Limits.{maxBidders}
-use Rattle.auction.specs.Cells.{holderAt, holderOf}
-use Rattle.auction.specs.Live.{live, matchingOf}
-use Rattle.auction.specs.Sound.{Sound}
-use Rattle.auction.specs.Potential.{edgeCount, potential}
-use Rattle.auction.specs.Rule.{displaced, done, handOver}
-use Rattle.auction.specs.Refusals.{firstOf}
+use Rattle.board.specs.declared.record.Auction.{Auction}
+use Rattle.board.specs.declared.record.Edge.{Edge}
+use Rattle.board.specs.declared.record.Holder.{Holder}
+use Rattle.board.specs.declared.record.Holder.the-variants.{Held, Free}
+use Rattle.refusals.specs.declared.Refusal.{Refusal}
+use Rattle.refusals.specs.declared.Verdict.{Verdict}
+use Rattle.refusals.specs.declared.Verdict.the-variants.{Served, Refused}
+use Rattle.auction.specs.declared.arrive.Arrived.{Arrived}
+use Rattle.auction.specs.declared.arrive.Arrival.{Arrival}
+use Rattle.auction.specs.declared.withdraw.Withdrawn.{Withdrawn}
+use Rattle.auction.specs.declared.withdraw.Withdrawal.{Withdrawal}
+use Rattle.board.specs.Limits.{maxBidders}
+use Rattle.board.specs.Cells.{holderAt, holderOf}
+use Rattle.board.specs.Live.{live, matchingOf}
+use Rattle.board.specs.Sound.{Sound}
+use Rattle.bidding.specs.Potential.{edgeCount, potential}
+use Rattle.bidding.specs.Rule.{displaced, done, handOver}
+use Rattle.refusals.specs.Demand1.{firstOf}
 use Rattle.auction.specs.Edges.{itemIn, weightIn, rowTo}
-use Rattle.auction.specs.Calls.{arriveChecks, arrivalOf, arrivedOf, arriveBy, arriveOf, entered, withdrawChecks, withdrawalOf, withdrawnOf, withdrawBy, withdrawOf, released}
-use Rattle.auction.specs.Waiting.{Nobody, Ready}
-use Rattle.auction.specs.RuleLaws.{Settles, Ends}
+use Rattle.auction.specs.Arrive.{arriveChecks, arrivalOf, arriveBy, arriveOf}
+use Rattle.bidding.specs.Moves.{arrivedOf, entered, withdrawnOf, released}
+use Rattle.auction.specs.Withdraw.{withdrawChecks, withdrawalOf, withdrawBy, withdrawOf}
+use Rattle.bidding.specs.Waiting.{Nobody, Ready}
+use Rattle.bidding.specs.RuleLaws.{Settles, Ends}
 use Rattle.auction.specs.Demand2.{ArriveEnds, WithdrawEnds, Arrives, ArriveDemand2, Leaves, free, held, Withdraws, WithdrawDemand2, SoundDemand2}
-use Rattle.auction.proofs.SoundLaw.{sound-decides, sound-is-settled}
-use Rattle.auction.proofs.Frame.{framed}
-use Rattle.auction.proofs.Bids.{cell-free}
-use Rattle.auction.proofs.Potentials.{potential-displaced, potential-released}
-use Rattle.auction.proofs.Chains.{chain-ends, settle-is-chain}
-use Rattle.auction.proofs.Starts.{arrival-ready, withdrawal-ready, withdrawal-free}
-use Rattle.auction.proofs.EdgesLaw.{served-next, Accepted, served-arrival, served-withdrawal, row-fits}
+use Rattle.board.proofs.SoundLaw.{sound-decides}
+use Rattle.bidding.proofs.Waiting.{sound-is-settled}
+use Rattle.bidding.proofs.Frame.{framed}
+use Rattle.bidding.proofs.Bids.{cell-free}
+use Rattle.bidding.proofs.Potentials.{potential-displaced, potential-released}
+use Rattle.bidding.proofs.Chains.{chain-ends, settle-is-chain}
+use Rattle.bidding.proofs.Starts.{arrival-ready, withdrawal-ready, withdrawal-free}
+use Rattle.refusals.proofs.Verdicts.{served-next}
+use Rattle.auction.proofs.EdgesLaw.{EdgesAccepted, served-arrival, served-withdrawal, row-fits}
 
 -- An answer is one
 same-done : {A : Type 0} {r s : A} (P : A → Type 0) → done r ≡ done s → P r → P s
@@ -67,9 +71,9 @@ joined b edges = entered b (rowOf edges)
 -- What a served arrival is
 pub record Joins (b : Auction) (edges : List Edge) : Type 0 where
   pub before : Sound b
-  pub room : b .arrived < maxBidders
-  pub accepted : Accepted (b .items) (b .withdrawn) (itemIn edges) (weightIn edges) (length edges)
-  pub after : Settlement (joined b edges) (b .arrived)
+  pub room : b .market .arrived < maxBidders
+  pub accepted : EdgesAccepted (b .market .items) (b .market .withdrawn) (itemIn edges) (weightIn edges) (length edges)
+  pub after : Settlement (joined b edges) (b .market .arrived)
   pub answers : arriveOf b edges ≡ done (record { auction = after .settles .board; answer = Arrived.Bids (after .settles .bids) })
 
 pub joins : (b : Auction) (edges : List Edge) → firstOf (arriveChecks b edges) ≡ Served → Joins b edges
@@ -124,7 +128,7 @@ pub record Quits (b : Auction) (item : ℕ) : Type 0 where
   pub answers : withdrawOf b item ≡ done (record { auction = board; answer = Withdrawn.Bids bids })
 
 module _ (b : Auction) (item : ℕ) (e : firstOf (withdrawChecks b item) ≡ Served) where
-  by-holder : (s : Sound b) (lk : item - 1 < b .items) (h : Holder) → holderOf (holderAt b (item - 1)) ≡ h → Quits b item
+  by-holder : (s : Sound b) (lk : item - 1 < b .market .items) (h : Holder) → holderOf (holderAt b (item - 1)) ≡ h → Quits b item
   unfolding withdrawOf withdrawBy withdrawnOf withdrawalOf handOver edgeCount displaced
   by-holder s lk Free f =
       record {

@@ -1,19 +1,20 @@
 -- The verdicts on an arrival's edges, as the code comes to them.
-use mathlib.Core.Path.{_≡_, refl, sym, ap, _∙_}
-use mathlib.Core.Bool.{Bool, true, false, not}
+use mathlib.Core.Path.{_≡_, sym, _∙_}
+use mathlib.Core.Bool.{Bool, true, false}
 use mathlib.Core.List.{List, _++_}
-use Prim.Native.Nat.{ℕ, zero, suc, _+_, _-_, _<_}
+use Prim.Native.Nat.{ℕ, suc, _+_, _-_, _<_}
 use native.Mathlib.Numerals.{add-one}
 use native.Mathlib.Omega.{arith}
 use lib.ListN.{getD}
-use Rattle.auction.specs.declared.refusal.Refusal.{Refusal}
-use Rattle.auction.specs.declared.refusal.Refusal.the-variants.{Unknown, Gone, Worth, Order}
-use Rattle.auction.specs.declared.refusal.Verdict.{Verdict}
-use Rattle.auction.specs.declared.refusal.Verdict.the-variants.{Served, Refused}
-use Rattle.auction.specs.Limits.{maxWeight}
-use Rattle.auction.specs.Refusals.{firstOf}
-use Rattle.auction.specs.Edges.{withinTest, orderTest, edgeChecks, edgesChecks}
-use Rattle.auction.proofs.Verdicts.{first-on, first-stops}
+use Rattle.refusals.specs.declared.Refusal.{Refusal}
+use Rattle.refusals.specs.declared.Refusal.the-variants.{Unknown, Gone, Worth, Order}
+use Rattle.refusals.specs.declared.Verdict.{Verdict}
+use Rattle.refusals.specs.declared.Verdict.the-variants.{Served, Refused}
+use Rattle.board.specs.Limits.{maxWeight}
+use Rattle.refusals.specs.Demand1.{firstOf}
+use Rattle.board.specs.Ranges.{withinTest}
+use Rattle.auction.specs.Edges.{orderTest, edgeChecks, edgesChecks}
+use Rattle.refusals.proofs.Verdicts.{first-on, first-stops}
 
 module _ (items : ℕ) (withdrawn : List Bool) (item weight : ℕ → ℕ) where
   -- One edge: each answer in turn

@@ -1,43 +1,38 @@
 -- What it says that an arrival's edges, or a withdrawal's item, are served; and the row that the edges make.
 use mathlib.Core.Path.{_≡_, refl, ap}
 use mathlib.Core.Logic.{⊎-elim}
-use mathlib.Core.Bool.{Bool, true, false, cond}
+use mathlib.Core.Bool.{Bool, false}
 use mathlib.Core.List.{List, [], _∷_, _++_}
 use Prim.Native.Nat.{ℕ, zero, suc, _+_, _-_, _≤_, _<_}
 use native.Mathlib.Nat.{le-refl, eq-or-lt-of-le}
 use native.Mathlib.Omega.{arith}
-use lib.ListN.{length, getD, set, replicate, length-set}
+use lib.ListN.{length, getD, set, length-set}
 use lib.Seq.{getD-set-same, getD-set-other}
 use borrow.Author.Tests.{leb-false, not-false}
 use Rattle.duality.specs.Sums.{upd}
 use Rattle.duality.proofs.Below.{one-more}
 use Rattle.duality.proofs.Sums.{sumTo-eq, sumTo-zero, sumTo-upd, upd-all}
-use Rattle.auction.specs.declared.board.Auction.{Auction}
-use Rattle.auction.specs.declared.board.Edge.{Edge}
-use Rattle.auction.specs.declared.refusal.Verdict.the-variants.{Served, Refused}
-use Rattle.auction.specs.Limits.{maxItems, maxBidders, maxWeight}
-use Rattle.auction.specs.Cells.{withdrawnAt}
-use Rattle.auction.specs.Potential.{one}
-use Rattle.auction.specs.Refusals.{Check, firstOf, Within}
+use Rattle.board.specs.declared.record.Auction.{Auction}
+use Rattle.board.specs.declared.record.Edge.{Edge}
+use Rattle.refusals.specs.declared.Verdict.the-variants.{Served}
+use Rattle.board.specs.Limits.{maxItems, maxBidders, maxWeight}
+use Rattle.board.specs.Cells.{withdrawnAt}
+use Rattle.bidding.specs.Potential.{one}
+use Rattle.refusals.specs.Demand1.{Check, firstOf}
+use Rattle.board.specs.Ranges.{Within}
 use Rattle.auction.specs.Edges.{itemIn, weightIn, orderTest, edgeChecks, edgesChecks, rowTo}
-use Rattle.auction.specs.Calls.{arriveRest, withdrawRest}
-use Rattle.auction.specs.Waiting.{RowFits}
-use Rattle.auction.proofs.Tests.{within-decides}
-use Rattle.auction.proofs.Potentials.{rowCount}
+use Rattle.auction.specs.Arrive.{arriveRest}
+use Rattle.auction.specs.Withdraw.{withdrawRest}
+use Rattle.bidding.specs.Waiting.{RowFits}
+use Rattle.board.proofs.Filling.{blank}
+use Rattle.board.proofs.Tests.{within-decides}
+use Rattle.refusals.proofs.Verdicts.{served-next}
+use Rattle.bidding.proofs.Potentials.{rowCount}
 
 -- ---- Served checks
 
--- The first test fails, and the rest is served
-pub served-next : (c : Check) (rest : List Check) → firstOf (c ∷ rest) ≡ Served → (c .test ≡ false) × (firstOf rest ≡ Served)
-unfolding firstOf
-served-next c rest e = go (c .test) refl e
-  where
-    go : (t : Bool) → c .test ≡ t → cond t (Refused (c .refusal)) (firstOf rest) ≡ Served → (c .test ≡ false) × (firstOf rest ≡ Served)
-    go true q e = let z : _≡_ {A = ℕ} 0 1 = cc in absurd (omega arith)
-    go false q e = (q, e)
-
 -- Edges that are served: each at an item of the board that is not withdrawn, its weight within limits, and items rising
-pub record Accepted (items : ℕ) (withdrawn : List Bool) (item weight : ℕ → ℕ) (n : ℕ) : Type 0 where
+pub record EdgesAccepted (items : ℕ) (withdrawn : List Bool) (item weight : ℕ → ℕ) (n : ℕ) : Type 0 where
   pub known : (i : ℕ) → i < n → Within 1 items (item i)
   pub here : (i : ℕ) → i < n → getD withdrawn (item i - 1) false ≡ false
   pub weighed : (i : ℕ) → i < n → Within 1 maxWeight (weight i)
@@ -74,7 +69,7 @@ module _ (items : ℕ) (withdrawn : List Bool) (item weight : ℕ → ℕ) where
       let u = fine i _ e in
       ⊎-elim (λ (q : i ≡ j). rw q at (u .0)) (λ m. each-fine n (suc i) (u .1) j m (omega arith)) (eq-or-lt-of-le l)
 
-  pub served-edges : (n : ℕ) → firstOf (edgesChecks items withdrawn item weight 0 n) ≡ Served → Accepted items withdrawn item weight n
+  pub served-edges : (n : ℕ) → firstOf (edgesChecks items withdrawn item weight 0 n) ≡ Served → EdgesAccepted items withdrawn item weight n
   unfolding orderTest
   served-edges n e =
       let each = each-fine n 0 e in
@@ -86,14 +81,14 @@ module _ (items : ℕ) (withdrawn : List Bool) (item weight : ℕ → ℕ) where
       }
 
 pub served-arrival : (b : Auction) (edges : List Edge) → firstOf (arriveRest b edges) ≡ Served →
-    (b .arrived < maxBidders) × Accepted (b .items) (b .withdrawn) (itemIn edges) (weightIn edges) (length edges)
+    (b .market .arrived < maxBidders) × EdgesAccepted (b .market .items) (b .market .withdrawn) (itemIn edges) (weightIn edges) (length edges)
 unfolding arriveRest
-served-arrival b edges e = let u = served-next _ _ e in (leb-false _ _ (u .0), served-edges (b .items) (b .withdrawn) _ _ _ (u .1))
+served-arrival b edges e = let u = served-next _ _ e in (leb-false _ _ (u .0), served-edges (b .market .items) (b .market .withdrawn) _ _ _ (u .1))
 
-pub served-withdrawal : (b : Auction) (item : ℕ) → firstOf (withdrawRest b item) ≡ Served → Within 1 (b .items) item × (withdrawnAt b (item - 1) ≡ false)
+pub served-withdrawal : (b : Auction) (item : ℕ) → firstOf (withdrawRest b item) ≡ Served → Within 1 (b .market .items) item × (withdrawnAt b (item - 1) ≡ false)
 unfolding withdrawRest
 served-withdrawal b item e =
-    let u = served-next _ _ e in (within-decides (b .items) item .sound (not-false _ (u .0)), served-next _ _ (u .1) .0)
+    let u = served-next _ _ e in (within-decides (b .market .items) item .sound (not-false _ (u .0)), served-next _ _ (u .1) .0)
 
 -- ---- The row that the edges make
 
@@ -104,12 +99,6 @@ set-all P (x ∷ l) zero v p h zero = p
 set-all P (x ∷ l) zero v p h (suc j) = h (suc j)
 set-all P (x ∷ l) (suc i) v p h zero = h zero
 set-all P (x ∷ l) (suc i) v p h (suc j) = set-all (λ j. P (suc j)) l i v p (λ j. h (suc j)) j
-
--- A cell of equal ones, also one past the end
-pub blank : {A : Type 0} (n k : ℕ) (a : A) → getD (replicate n a) k a ≡ a
-blank zero k a = refl
-blank (suc n) zero a = refl
-blank (suc n) (suc k) a = blank n k a
 
 one-is : (w : ℕ) → 1 ≤ w → one w ≡ 1
 one-is zero h = absurd (omega arith)
@@ -128,7 +117,7 @@ module _ (item weight : ℕ → ℕ) where
   row-length (suc n) = simp length-set (row-length n)
 
 module _ {items : ℕ} {withdrawn : List Bool} {item weight : ℕ → ℕ} where
-  pub row-fits : {n : ℕ} → Accepted items withdrawn item weight n → RowFits items (rowTo item weight n)
+  pub row-fits : {n : ℕ} → EdgesAccepted items withdrawn item weight n → RowFits items (rowTo item weight n)
   row-fits {n} a =
       record {
         sized = row-length item weight n;
@@ -136,16 +125,16 @@ module _ {items : ℕ} {withdrawn : List Bool} {item weight : ℕ → ℕ} where
         bare = λ k l m. row-all item weight (λ k v. items ≤ k → v ≡ 0) n (λ k l. refl) (λ i h l. absurd (omega (arith, a .known i h .low, a .known i h .high))) k l;
       }
 
-  fewer : {n : ℕ} → Accepted items withdrawn item weight (suc n) → Accepted items withdrawn item weight n
+  fewer : {n : ℕ} → EdgesAccepted items withdrawn item weight (suc n) → EdgesAccepted items withdrawn item weight n
   fewer a = record { known = λ i l. a .known i (omega arith); here = λ i l. a .here i (omega arith); weighed = λ i l. a .weighed i (omega arith); rising = λ i l. a .rising i (omega arith) }
 
   -- The items before the last are below it
-  below : (n : ℕ) → Accepted items withdrawn item weight (suc n) → (i : ℕ) → i < n → item i < item n
+  below : (n : ℕ) → EdgesAccepted items withdrawn item weight (suc n) → (i : ℕ) → i < n → item i < item n
   below zero a i l = absurd (omega arith)
   below (suc n) a i l = one-more n (λ i. item i < item (suc n)) (λ i h. omega (arith, below n (fewer a) i h, a .rising n (omega arith))) (a .rising n (omega arith)) i l
 
   -- It has an edge for each
-  pub row-count : items ≤ maxItems → (n : ℕ) → Accepted items withdrawn item weight n → rowCount items (rowTo item weight n) ≡ n
+  pub row-count : items ≤ maxItems → (n : ℕ) → EdgesAccepted items withdrawn item weight n → rowCount items (rowTo item weight n) ≡ n
   unfolding rowTo
   row-count h zero a = sumTo-zero items _ (λ k l. rw (blank {A = ℕ} maxItems k 0))
   row-count h (suc n) a =

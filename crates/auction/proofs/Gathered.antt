@@ -10,10 +10,10 @@ use lib.ListN.{length, getD, set, take, length-set}
 use lib.Seq.{getD-set-same, getD-set-other, take-suc, take-all, take-length}
 use lib.Dec.{leb}
 use borrow.Author.Tests.{leb-true, leb-false, lt-leb}
-use Rattle.auction.specs.declared.board.Edge.{Edge}
+use Rattle.board.specs.declared.record.Edge.{Edge}
 use Rattle.auction.specs.declared.edges.EdgeBuffer.{EdgeBuffer}
-use Rattle.auction.specs.Limits.{maxEdges}
-use Rattle.auction.specs.Cells.{edge}
+use Rattle.board.specs.Limits.{maxEdges}
+use Rattle.board.specs.Cells.{edge}
 use Rattle.auction.specs.Edges.{edgesFrom, bufferEdges, emptyBuffer, pushed}
 
 -- What a buffer means hangs on the cells below its count
@@ -43,7 +43,7 @@ module _ (edges : List Edge) (i : ℕ) (buffer : EdgeBuffer) (f : Filled edges i
   xs = set (buffer .items) i (e .item)
 
   abbrev ws : List ℕ
-  ws = set (buffer .weights) i (e .weight)
+  ws = set (buffer .weights) i (e .weight .0)
 
   abbrev longer : EdgeBuffer
   longer = record { items = xs; weights = ws; count = i + 1 }
@@ -54,7 +54,12 @@ module _ (edges : List Edge) (i : ℕ) (buffer : EdgeBuffer) (f : Filled edges i
   first-more : edgesFrom xs ws (i + 1) ≡ take (i + 1) edges
   unfolding edgesFrom
   first-more =
-      rw (add-one i, take-suc edges i (edge 0 0) l, getD-set-same (buffer .items) i (e .item) 0 (omega (arith, f .items)), getD-set-same (buffer .weights) i (e .weight) 0 (omega (arith, f .weights)))
+      rw (
+        add-one i,
+        take-suc edges i (edge 0 0) l,
+        getD-set-same (buffer .items) i (e .item) 0 (omega (arith, f .items)),
+        getD-set-same (buffer .weights) i (e .weight .0) 0 (omega (arith, f .weights)),
+      )
       (ap (λ (es : List Edge). es ++ (e ∷ []))
       (from-as xs (buffer .items) ws (buffer .weights) i (λ j h. getD-set-other (buffer .items) i j _ 0 (λ q. omega arith)) (λ j h. getD-set-other (buffer .weights) i j _ 0 (λ q. omega arith)) ∙ f .first))
 

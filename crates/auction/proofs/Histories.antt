@@ -4,15 +4,16 @@ use Prim.Native.Nat.{ℕ, _+_, _≤_}
 use native.Mathlib.Nat.{add-zero, le-trans}
 use native.Mathlib.Omega.{arith}
 use lib.ListN.{length}
-use Rattle.auction.specs.declared.board.Auction.{Auction}
-use Rattle.auction.specs.Sound.{Sound}
-use Rattle.auction.specs.Potential.{edgeCount, potential}
-use Rattle.auction.specs.Rule.{displaced}
-use Rattle.auction.specs.Calls.{opened, released}
+use Rattle.board.specs.declared.record.Auction.{Auction}
+use Rattle.board.specs.Sound.{Sound}
+use Rattle.bidding.specs.Potential.{edgeCount, potential}
+use Rattle.bidding.specs.Rule.{displaced}
+use Rattle.board.specs.Opening.{opened}
+use Rattle.bidding.specs.Moves.{released}
 use Rattle.auction.specs.Demand2.{Leaves, free, held}
 use Rattle.auction.specs.Histories.{edgesAdded, arrivalBids, withdrawalBids, Reached, opens, arrives, withdraws, HistoryDemand2}
-use Rattle.auction.proofs.Potentials.{potential-within, potential-entered, count-entered}
-use Rattle.auction.proofs.Chains.{chain-count}
+use Rattle.bidding.proofs.Potentials.{potential-within, potential-entered, count-entered}
+use Rattle.bidding.proofs.Chains.{chain-count}
 use Rattle.auction.proofs.EdgesLaw.{row-count, row-length}
 use Rattle.auction.proofs.Demand2.{rowOf, arrive-all, withdraw-all}
 use Rattle.auction.proofs.Opening.{opening-sound}

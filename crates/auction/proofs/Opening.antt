@@ -3,22 +3,24 @@ use mathlib.Core.Path.{_≡_, refl, ap, _∙_}
 use mathlib.Core.Bool.{false}
 use Prim.Native.Nat.{ℕ, _*_, _+_}
 use native.Mathlib.Omega.{arith}
-use lib.ListN.{getD, getD-replicate, length-replicate}
+use lib.ListN.{length-replicate}
 use borrow.Author.Tests.{not-false}
-use Rattle.auction.proofs.Filed.{row-cell}
-use Rattle.auction.specs.declared.board.Scaled.{Scaled}
-use Rattle.auction.specs.declared.refusal.Verdict.{Verdict}
-use Rattle.auction.specs.declared.refusal.Verdict.the-variants.{Served, Refused}
-use Rattle.auction.specs.declared.calls.Opened.{Opened}
-use Rattle.auction.specs.Limits.{maxItems, maxBidders}
-use Rattle.auction.specs.Cells.{scaled, priceAt}
-use Rattle.auction.specs.Sound.{Sound, SlackIn}
-use Rattle.auction.specs.Refusals.{firstOf, Within}
-use Rattle.auction.specs.Calls.{opened, openChecks, openBy, openOf}
-use Rattle.auction.specs.Waiting.{SoundBut, Nobody}
-use Rattle.auction.proofs.SoundLaw.{sound-is-settled}
-use Rattle.auction.proofs.Tests.{within-decides, slack-decides}
-use Rattle.auction.proofs.EdgesLaw.{served-next, blank}
+use Rattle.board.proofs.Filed.{row-cell}
+use Rattle.board.specs.declared.units.Scaled.{Scaled}
+use Rattle.refusals.specs.declared.Verdict.{Verdict}
+use Rattle.refusals.specs.declared.Verdict.the-variants.{Served, Refused}
+use Rattle.board.specs.declared.opening.Opened.{Opened}
+use Rattle.board.specs.Limits.{maxItems, maxBidders}
+use Rattle.board.specs.Cells.{scaled, priceAt}
+use Rattle.board.specs.Sound.{Sound}
+use Rattle.board.specs.Ranges.{SlackIn, Within}
+use Rattle.refusals.specs.Demand1.{firstOf}
+use Rattle.board.specs.Opening.{opened, openChecks, openBy, openOf}
+use Rattle.bidding.specs.Waiting.{SoundBut, Nobody}
+use Rattle.bidding.proofs.Waiting.{sound-is-settled}
+use Rattle.board.proofs.Tests.{within-decides, slack-decides}
+use Rattle.refusals.proofs.Verdicts.{served-next}
+use Rattle.board.proofs.Filling.{blank}
 
 pub opened-sound : (items p q : ℕ) → Within 1 maxItems items → SlackIn 1 p q → Sound (opened items p q)
 unfolding opened

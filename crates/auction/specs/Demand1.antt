@@ -2,15 +2,19 @@
 use mathlib.Core.Path.{_≡_}
 use mathlib.Core.List.{List}
 use Prim.Native.Nat.{ℕ}
-use Rattle.auction.specs.declared.board.Auction.{Auction}
-use Rattle.auction.specs.declared.board.Edge.{Edge}
-use Rattle.auction.specs.declared.calls.Opened.{Opened}
-use Rattle.auction.specs.declared.calls.Arrived.{Arrived}
-use Rattle.auction.specs.declared.calls.Withdrawn.{Withdrawn}
-use Rattle.auction.specs.declared.calls.ReadOut.{ReadOut}
-use Rattle.auction.specs.Rule.{done}
-use Rattle.auction.specs.Refusals.{Demand1}
-use Rattle.auction.specs.Calls.{OpenMet, openChecks, opened, openOf, ArriveMet, arriveChecks, arriveOf, WithdrawMet, withdrawChecks, withdrawOf, ReadOutMet, readOutChecks, readOutOf, outcome, Lists}
+use Rattle.board.specs.declared.record.Auction.{Auction}
+use Rattle.board.specs.declared.record.Edge.{Edge}
+use Rattle.board.specs.declared.opening.Opened.{Opened}
+use Rattle.auction.specs.declared.arrive.Arrived.{Arrived}
+use Rattle.auction.specs.declared.withdraw.Withdrawn.{Withdrawn}
+use Rattle.auction.specs.declared.read_out.ReadOut.{ReadOut}
+use Rattle.bidding.specs.Rule.{done}
+use Rattle.refusals.specs.Demand1.{Demand1}
+use Rattle.board.specs.Opening.{OpenMet, openChecks, opened, openOf}
+use Rattle.auction.specs.Arrive.{ArriveMet, arriveChecks, arriveOf}
+use Rattle.auction.specs.Withdraw.{WithdrawMet, withdrawChecks, withdrawOf}
+use Rattle.auction.specs.ReadOut.{readOutOf, outcome}
+use Rattle.board.specs.Lent.{ReadOutMet, readOutChecks, Lists}
 
 abbrev pub OpenDemand1 : Type 0
 OpenDemand1 =

@@ -1,27 +1,29 @@
--- Demand 2: exactly the bids of the rule; the sum, the share, and the count of bids over every history.
+-- Demand 2: exactly the bids of the rule; the sum and the share. The count of bids over every history is in Histories.
 use mathlib.Core.Path.{_≡_}
 use mathlib.Core.List.{List}
-use Prim.Native.Nat.{ℕ, suc, _+_, _-_, _*_, _≤_, _<_}
-use lib.ListN.{length, getD}
+use Prim.Native.Nat.{ℕ, _+_, _-_, _*_, _≤_, _<_}
+use lib.ListN.{length}
 use Rattle.duality.specs.Matching.{IsMatching, weightOf}
 use Rattle.duality.specs.Cover.{total}
 use Rattle.duality.specs.Lists.{cells}
-use Rattle.duality.specs.Steps.{most}
-use Rattle.auction.specs.declared.board.Auction.{Auction}
-use Rattle.auction.specs.declared.board.Edge.{Edge}
-use Rattle.auction.specs.declared.board.Holder.the-variants.{Held, Free}
-use Rattle.auction.specs.declared.calls.Opened.{Opened}
-use Rattle.auction.specs.declared.calls.Arrived.{Arrived}
-use Rattle.auction.specs.declared.calls.Arrival.{Arrival}
-use Rattle.auction.specs.declared.calls.Withdrawn.{Withdrawn}
-use Rattle.auction.specs.declared.calls.Withdrawal.{Withdrawal}
-use Rattle.auction.specs.declared.calls.ReadOut.{ReadOut}
-use Rattle.auction.specs.Cells.{priceAt, gainAt, holderAt, holderOf}
-use Rattle.auction.specs.Live.{live, matchingOf}
-use Rattle.auction.specs.Sound.{Sound}
-use Rattle.auction.specs.Rule.{Chain, displaced, done}
+use Rattle.board.specs.declared.record.Auction.{Auction}
+use Rattle.board.specs.declared.record.Edge.{Edge}
+use Rattle.board.specs.declared.record.Holder.the-variants.{Held, Free}
+use Rattle.auction.specs.declared.arrive.Arrived.{Arrived}
+use Rattle.auction.specs.declared.arrive.Arrival.{Arrival}
+use Rattle.auction.specs.declared.withdraw.Withdrawn.{Withdrawn}
+use Rattle.auction.specs.declared.withdraw.Withdrawal.{Withdrawal}
+use Rattle.auction.specs.declared.read_out.ReadOut.{ReadOut}
+use Rattle.board.specs.Cells.{priceAt, gainAt, holderAt, holderOf}
+use Rattle.board.specs.Live.{live, matchingOf, matchingWeight}
+use Rattle.board.specs.Sound.{Sound}
+use Rattle.bidding.specs.Rule.{Chain, displaced, done}
 use Rattle.auction.specs.Edges.{itemIn, weightIn, rowTo}
-use Rattle.auction.specs.Calls.{opened, openOf, arriveOf, entered, withdrawOf, released, readOutOf, Lists}
+use Rattle.auction.specs.Arrive.{arriveOf}
+use Rattle.bidding.specs.Moves.{entered, released}
+use Rattle.auction.specs.Withdraw.{withdrawOf}
+use Rattle.auction.specs.ReadOut.{readOutOf}
+use Rattle.board.specs.Lent.{Lists}
 
 -- ---- Every call ends: the computed chain is never spent, on any input
 
@@ -35,7 +37,7 @@ WithdrawEnds = (b : Auction) (item : ℕ) → (r : Withdrawal) × (withdrawOf b 
 
 pub record Arrives (b : Auction) (edges : List Edge) (c : Auction) (n : ℕ) : Type 0 where
   pub before : Sound b
-  pub chain : Chain (entered b (rowTo (itemIn edges) (weightIn edges) (length edges))) (b .arrived) c n
+  pub chain : Chain (entered b (rowTo (itemIn edges) (weightIn edges) (length edges))) (b .market .arrived) c n
   pub after : Sound c
 
 abbrev pub ArriveDemand2 : Type 0
@@ -62,14 +64,14 @@ WithdrawDemand2 =
 
 -- "I hold the dearest unplaced batch against each free kettle": no unplaced bidder has a live edge at a free item
 abbrev pub Busy : Auction → Type 0
-Busy b = (i k : ℕ) → i < b .arrived → matchingOf b i ≡ 0 → k < b .items → 0 < live b i k → holderOf (holderAt b k) ≡ Free → ⊥
+Busy b = (i k : ℕ) → i < b .market .arrived → matchingOf b i ≡ 0 → k < b .market .items → 0 < live b i k → holderOf (holderAt b k) ≡ Free → ⊥
 
 pub record SoundBoard (b : Auction) : Type 0 where
   -- "Prices plus gains = (q + p) × worth"
-  pub sum : total (b .arrived) (b .items) (priceAt b) (gainAt b) ≡ (b .slack .q + b .slack .p) * weightOf (b .arrived) (live b) (matchingOf b)
+  pub sum : total (b .market .arrived) (b .market .items) (priceAt b) (gainAt b) ≡ (b .market .slack .q + b .market .slack .p) * matchingWeight b
   -- "worth × (q + p) ≥ (q - p) × any plan's worth"
-  pub share : (other : ℕ → ℕ) → IsMatching (b .arrived) (b .items) (live b) other →
-      (b .slack .q - b .slack .p) * weightOf (b .arrived) (live b) other ≤ (b .slack .q + b .slack .p) * weightOf (b .arrived) (live b) (matchingOf b)
+  pub share : (other : ℕ → ℕ) → IsMatching (b .market .arrived) (b .market .items) (live b) other →
+      (b .market .slack .q - b .market .slack .p) * weightOf (b .market .arrived) (live b) other ≤ (b .market .slack .q + b .market .slack .p) * matchingWeight b
   pub busy : Busy b
 
 abbrev pub SoundDemand2 : Type 0
@@ -77,17 +79,17 @@ SoundDemand2 = (b : Auction) → Sound b → SoundBoard b
 
 -- What a read-out writes: the matching, the prices and the gains of the board, further cells as they were; so the sum holds of the lists
 pub record Reads (b : Auction) (before after : Lists) : Type 0 where
-  pub plan : (i : ℕ) → i < b .arrived → cells (after .plan) i ≡ matchingOf b i
-  pub prices : (k : ℕ) → k < b .items → cells (after .prices) k ≡ priceAt b k
-  pub gains : (i : ℕ) → i < b .arrived → cells (after .gains) i ≡ gainAt b i
-  pub plan-kept : (i : ℕ) → b .arrived ≤ i → cells (after .plan) i ≡ cells (before .plan) i
-  pub prices-kept : (k : ℕ) → b .items ≤ k → cells (after .prices) k ≡ cells (before .prices) k
-  pub gains-kept : (i : ℕ) → b .arrived ≤ i → cells (after .gains) i ≡ cells (before .gains) i
+  pub plan : (i : ℕ) → i < b .market .arrived → cells (after .plan) i ≡ matchingOf b i
+  pub prices : (k : ℕ) → k < b .market .items → cells (after .prices) k ≡ priceAt b k
+  pub gains : (i : ℕ) → i < b .market .arrived → cells (after .gains) i ≡ gainAt b i
+  pub plan-kept : (i : ℕ) → b .market .arrived ≤ i → cells (after .plan) i ≡ cells (before .plan) i
+  pub prices-kept : (k : ℕ) → b .market .items ≤ k → cells (after .prices) k ≡ cells (before .prices) k
+  pub gains-kept : (i : ℕ) → b .market .arrived ≤ i → cells (after .gains) i ≡ cells (before .gains) i
   pub plan-length : length (after .plan) ≡ length (before .plan)
   pub prices-length : length (after .prices) ≡ length (before .prices)
   pub gains-length : length (after .gains) ≡ length (before .gains)
-  pub sum : total (b .arrived) (b .items) (cells (after .prices)) (cells (after .gains)) ≡
-      (b .slack .q + b .slack .p) * weightOf (b .arrived) (live b) (cells (after .plan))
+  pub sum : total (b .market .arrived) (b .market .items) (cells (after .prices)) (cells (after .gains)) ≡
+      (b .market .slack .q + b .market .slack .p) * weightOf (b .market .arrived) (live b) (cells (after .plan))
 
 abbrev pub ReadOutDemand2 : Type 0
 ReadOutDemand2 = (b : Auction) (l : Lists) → readOutOf b l .answer ≡ ReadOut.Written → Reads b l (readOutOf b l .lists)

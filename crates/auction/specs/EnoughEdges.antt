@@ -2,10 +2,10 @@
 use mathlib.Core.Path.{_≡_}
 use mathlib.Core.List.{List}
 use lib.ListN.{take}
-use Rattle.auction.specs.declared.board.Auction.{Auction}
-use Rattle.auction.specs.declared.board.Edge.{Edge}
-use Rattle.auction.specs.Limits.{maxEdges}
-use Rattle.auction.specs.Calls.{arriveOf}
+use Rattle.board.specs.declared.record.Auction.{Auction}
+use Rattle.board.specs.declared.record.Edge.{Edge}
+use Rattle.board.specs.Limits.{maxEdges}
+use Rattle.auction.specs.Arrive.{arriveOf}
 
 -- "in strictly rising kettle order" at 64 kettles at most: of more edges than that, one of the first 65 is refused, and what comes after is not
 -- looked at

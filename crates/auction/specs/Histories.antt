@@ -4,16 +4,18 @@ use mathlib.Core.List.{List}
 use Prim.Native.Nat.{ℕ, _+_, _*_, _≤_}
 use lib.ListN.{length}
 use Rattle.duality.specs.Steps.{most}
-use Rattle.auction.specs.declared.board.Auction.{Auction}
-use Rattle.auction.specs.declared.board.Edge.{Edge}
-use Rattle.auction.specs.declared.calls.Opened.{Opened}
-use Rattle.auction.specs.declared.calls.Arrived.{Arrived}
-use Rattle.auction.specs.declared.calls.Arrival.{Arrival}
-use Rattle.auction.specs.declared.calls.Withdrawn.{Withdrawn}
-use Rattle.auction.specs.declared.calls.Withdrawal.{Withdrawal}
-use Rattle.auction.specs.Sound.{Sound}
-use Rattle.auction.specs.Rule.{done}
-use Rattle.auction.specs.Calls.{opened, openOf, arriveOf, withdrawOf}
+use Rattle.board.specs.declared.record.Auction.{Auction}
+use Rattle.board.specs.declared.record.Edge.{Edge}
+use Rattle.board.specs.declared.opening.Opened.{Opened}
+use Rattle.auction.specs.declared.arrive.Arrived.{Arrived}
+use Rattle.auction.specs.declared.arrive.Arrival.{Arrival}
+use Rattle.auction.specs.declared.withdraw.Withdrawn.{Withdrawn}
+use Rattle.auction.specs.declared.withdraw.Withdrawal.{Withdrawal}
+use Rattle.board.specs.Sound.{Sound}
+use Rattle.bidding.specs.Rule.{done}
+use Rattle.board.specs.Opening.{opened, openOf}
+use Rattle.auction.specs.Arrive.{arriveOf}
+use Rattle.auction.specs.Withdraw.{withdrawOf}
 
 -- The edges that an arrival adds, and the bids that it returns: none where it is refused
 abbrev pub edgesAdded : Arrived → List Edge → ℕ
@@ -40,7 +42,7 @@ pub data Reached : Auction → ℕ → ℕ → Type 0 where
 -- "Over every history from opening, the bids number at most the entries ever accepted times the whole part of (q - 1)/p"
 pub record History (b : Auction) (e n : ℕ) : Type 0 where
   pub sound : Sound b
-  pub bids : n ≤ e * most (b .slack .p) (b .slack .q)
+  pub bids : n ≤ e * most (b .market .slack .p) (b .market .slack .q)
 
 abbrev pub HistoryDemand2 : Type 0
 HistoryDemand2 = (b : Auction) (e n : ℕ) → Reached b e n → History b e n

@@ -1,20 +1,9 @@
--- What the board means. Start at Rule, Sound and Calls; the theorems' statements are RuleLaws, Demand1, Demand2 and ReplayLaws.
-pub mod Limits
-pub mod Cells
-pub mod Live
-pub mod Sound
-pub mod SoundTest
-pub mod SoundPass
-pub mod Potential
-pub mod Rule
-pub mod Waiting
-pub mod RuleLaws
-pub mod Refusals
+-- What the calls mean. The statements of the theorems are Demand1, Demand2, Histories and EnoughEdges.
 pub mod Edges
-pub mod Calls
+pub mod Arrive
+pub mod Withdraw
+pub mod ReadOut
 pub mod Demand1
 pub mod Demand2
 pub mod Histories
 pub mod EnoughEdges
-pub mod Replay
-pub mod ReplayLaws

@@ -1,16 +1,17 @@
 // An arrival's edges: gathered from a slice, tested one by one, and written as a row.
-use crate::board::Auction;
-use crate::board::Edge;
-use crate::refusal::Refusal;
-use crate::refusal::Verdict;
+use board::ranges::is_within;
+use board::record::Auction;
+use board::record::Edge;
+use refusals::Refusal;
+use refusals::Verdict;
 ghost use mathlib.Core.Path.{_≡_};
-ghost use Prim.Native.Nat.{ℕ, _+_, _*_, _≤_, _<_, min};
-ghost use Rattle.auction.specs.Limits.{maxItems, maxBidders, maxEdges, maxWeight};
-ghost use Rattle.auction.specs.Refusals.{firstOf, Within};
+ghost use Prim.Native.Nat.{ℕ, _+_, _≤_, _<_, min};
+ghost use Rattle.board.specs.Limits.{maxItems, maxEdges, maxWeight};
+ghost use Rattle.refusals.specs.Demand1.{firstOf};
+ghost use Rattle.board.specs.Ranges.{Within};
 ghost use lib.ListN.{take};
-ghost use lib.Seq.{sets};
 ghost use Rattle.duality.specs.Lists.{cells};
-ghost use Rattle.auction.specs.Edges.{withinTest, orderTest, edgeChecks, edgesChecks, rowTo, bufferEdges, emptyBuffer, pushed};
+ghost use Rattle.auction.specs.Edges.{orderTest, edgeChecks, edgesChecks, rowTo, bufferEdges, emptyBuffer, pushed};
 
 // The edges of an arrival as two lists side by side: of each edge the item's number and the weight. Only the first `count` count, and 65 at most.
 #[repr(C)]
@@ -18,16 +19,6 @@ pub struct EdgeBuffer {
     pub items: [u64; Auction::MAX_EDGES],
     pub weights: [u64; Auction::MAX_EDGES],
     pub count: u64,
-}
-
-// Whether a number is from 1 to a last one.
-pub(crate) fn is_within(last: u64, x: u64) -> bool
-    ensures { λ r. ⌜ r ≡ withinTest last x ⌝ }
-{
-    if x < 1 {
-        return false;
-    }
-    x <= last
 }
 
 // Whether the edge of cell i is not above the one before.
@@ -111,28 +102,22 @@ pub(crate) fn row_of<'a>(
     row
 }
 
-// A row, written among the weights from a cell on.
-pub(crate) fn file_row(
-    weights: &mut [u32; Auction::MAX_CELLS],
-    from: usize,
-    row: [u32; Auction::MAX_ITEMS],
-)
-    requires { ⌜ from + maxItems ≤ maxBidders * maxItems ⌝ }
-    ensures { λ _. ⌜ now (weights .exit) ≡ sets (now (weights .entry)) from row ⌝ }
-{
-    let mut k: usize = 0;
-    while k < Auction::MAX_ITEMS {
-        weights[from + k] = row[k];
-        k += 1;
-    }
-}
-
 // How many of so many edges are looked at.
 fn enough(count: usize) -> usize
     ensures { λ r. ⌜ r ≡ min count maxEdges ⌝ }
 {
     if count < Auction::MAX_EDGES {
         return count;
+    }
+    Auction::MAX_EDGES
+}
+
+// How many of a buffer's pairs count.
+pub(crate) fn pairs(count: u64) -> usize
+    ensures { λ r. ⌜ r ≡ min count maxEdges ⌝ }
+{
+    if count < Auction::MAX_EDGES as u64 {
+        return count as usize;
     }
     Auction::MAX_EDGES
 }
@@ -158,7 +143,7 @@ fn push(buffer: EdgeBuffer, edge: Edge) -> EdgeBuffer
     let at = buffer.count as usize;
     let mut next = buffer;
     next.items[at] = edge.item;
-    next.weights[at] = edge.weight;
+    next.weights[at] = edge.weight.0;
     next.count = buffer.count + 1;
     next
 }

@@ -1,8 +1,6 @@
-// The quick level: a board of items and bidders, changed by calls, planned by the multiplicative auction.
-pub mod board; // the record, its limits and units
-pub mod refusal; // what the board turns away
-pub mod sound; // the test that a board is sound
+// The calls of the quick level, over a board of items and bidders. No call asks anything of its caller; `arrive_in` and `withdraw_in`, which the
+// replay uses on a board that it knows to be sound, do.
+pub mod arrive;
 pub mod edges; // an arrival's edges: tested, and written as a row
-mod rule; // the bid and the chain of bids
-pub mod calls; // open, arrive, withdraw, read out
-pub mod replay; // the replay of a history text
+pub mod read_out;
+pub mod withdraw;

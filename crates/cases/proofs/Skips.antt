@@ -1,27 +1,26 @@
 -- A case is played on sound boards, so the test of soundness need not be computed again at each call.
-use mathlib.Core.Path.{_≡_, refl, sym, ap, _∙_}
-use mathlib.Core.Bool.{not}
+use mathlib.Core.Path.{_≡_, refl, ap, _∙_}
 use mathlib.Core.List.{List, [], _∷_}
 use Prim.Native.Nat.{ℕ}
 use native.Mathlib.Omega.{arith}
-use lib.ListN.{length}
-use Rattle.auction.specs.declared.refusal.Refusal.the-variants.{Slack, Uneven}
-use Rattle.auction.specs.declared.refusal.Verdict.{Verdict}
-use Rattle.auction.specs.declared.board.Auction.{Auction}
-use Rattle.auction.specs.declared.board.Edge.{Edge}
-use Rattle.auction.specs.declared.calls.Arrived.{Arrived}
-use Rattle.auction.specs.declared.calls.Arrival.{Arrival}
-use Rattle.auction.specs.declared.calls.Withdrawn.{Withdrawn}
-use Rattle.auction.specs.declared.calls.Withdrawal.{Withdrawal}
-use Rattle.auction.specs.declared.calls.Opened.{Opened}
-use Rattle.auction.specs.declared.calls.Opening.{Opening}
-use Rattle.auction.specs.Sound.{Sound}
-use Rattle.auction.specs.Rule.{Outcome, done, spent}
-use Rattle.auction.specs.Refusals.{codeOf, firstOf, Check}
-use Rattle.auction.specs.Refusals as Refusals
-use Rattle.auction.specs.Calls.{Lists, slackTest, opened, openOf, arriveRest, arriveBy, arriveOf, withdrawRest, withdrawBy, withdrawOf, openChecks, openBy}
-use Rattle.certificate.specs.Check.{evenTest, checkBy, checkOf, listChecks, checkRest}
-use Rattle.auction.proofs.SoundLaw.{sound-decides}
+use Rattle.refusals.specs.declared.Verdict.{Verdict}
+use Rattle.board.specs.declared.record.Auction.{Auction}
+use Rattle.board.specs.declared.record.Edge.{Edge}
+use Rattle.auction.specs.declared.arrive.Arrived.{Arrived}
+use Rattle.auction.specs.declared.arrive.Arrival.{Arrival}
+use Rattle.auction.specs.declared.withdraw.Withdrawn.{Withdrawn}
+use Rattle.auction.specs.declared.withdraw.Withdrawal.{Withdrawal}
+use Rattle.board.specs.declared.opening.Opened.{Opened}
+use Rattle.board.specs.Sound.{Sound}
+use Rattle.bidding.specs.Rule.{Outcome, done, spent}
+use Rattle.refusals.specs.Codes.{codeOf}
+use Rattle.refusals.specs.Demand1.{firstOf}
+use Rattle.board.specs.Lent.{Lists}
+use Rattle.board.specs.Opening.{openOf, openChecks, openBy}
+use Rattle.auction.specs.Arrive.{arriveRest, arriveBy, arriveOf}
+use Rattle.auction.specs.Withdraw.{withdrawRest, withdrawBy, withdrawOf}
+use Rattle.certificate.specs.Check.{checkBy, checkOf, checkRest}
+use Rattle.board.proofs.SoundLaw.{sound-decides}
 use Rattle.auction.proofs.Demand2.{arrive-demand-2, withdraw-demand-2}
 use Rattle.auction.proofs.Opening.{opening-sound}
 use Rattle.cases.specs.Play.{Call, arrive, withdraw, check, afterCheck, Case, Seen, refusal, seen, played, withdrew, afterArrive, afterWithdraw, playAll, opening, play}

@@ -1,16 +1,20 @@
 -- The starred cases hold, by computation.
-use mathlib.Core.Path.{_≡_, refl, ap, _∙_}
+use mathlib.Core.Path.{_≡_, refl, _∙_}
 use mathlib.Core.List.{List, [], _∷_, map}
-use Rattle.auction.specs.Live.{heldBy}
-use Rattle.auction.specs.Potential.{edgeCount}
-use Rattle.auction.specs.Rule.{offerOf, bestOf, placedAt, displaced, handOver, bidOf, settleOf}
-use Rattle.auction.specs.Refusals.{firstOf}
-use Rattle.auction.specs.Edges.{withinTest, orderTest, edgeChecks, edgesChecks, rowTo}
-use Rattle.auction.specs.Calls.{opened, slackTest, openBy, openOf, arriveRest, entered, arrivalOf, arrivedOf, arriveBy, withdrawRest, released, withdrawalOf, withdrawnOf, withdrawBy}
+use Rattle.board.specs.Live.{heldBy}
+use Rattle.bidding.specs.Potential.{edgeCount}
+use Rattle.bidding.specs.Rule.{offerOf, bestOf, placedAt, displaced, handOver, bidOf, settleOf}
+use Rattle.refusals.specs.Demand1.{firstOf}
+use Rattle.board.specs.Ranges.{withinTest, slackTest}
+use Rattle.auction.specs.Edges.{orderTest, edgeChecks, edgesChecks, rowTo}
+use Rattle.board.specs.Opening.{opened, openBy, openOf}
+use Rattle.auction.specs.Arrive.{arriveRest, arrivalOf, arriveBy}
+use Rattle.bidding.specs.Moves.{entered, arrivedOf, released, withdrawnOf}
+use Rattle.auction.specs.Withdraw.{withdrawRest, withdrawalOf, withdrawBy}
 use Rattle.duality.specs.Decide.{allBelow}
 use Rattle.duality.specs.Tests.{freshTest, cellTest}
-use Rattle.certificate.specs.Check.{evenTest, clashChecks, priceTest, priceChecks, gainChecks, rowTest, bareChecks, checkBy, listChecks, checkRest}
-use Rattle.cases.specs.Play.{Case, Seen, opening, afterCheck, afterArrive, afterWithdraw, played, withdrew, play}
+use Rattle.certificate.specs.Check.{evenTest, clashChecks, priceTest, priceChecks, gainChecks, coveredTest, bareChecks, checkBy, listChecks, checkRest}
+use Rattle.cases.specs.Play.{afterCheck, afterArrive, afterWithdraw, played, withdrew, play}
 use Rattle.cases.specs.Table.{Row, table, Cases}
 use Rattle.cases.proofs.Skips.{skipAll, skipOpening, skip, play-skips}
 
@@ -20,7 +24,8 @@ all-played (r ∷ rows) = rw (play-skips (r .case), all-played rows)
 
 computed : map (λ r. skip (r .case)) table ≡ map (λ r. r .seen) table
 unfolding
-    table skip checkRest afterCheck listChecks clashChecks priceTest priceChecks gainChecks rowTest bareChecks evenTest checkBy freshTest cellTest allBelow skipOpening skipAll afterArrive afterWithdraw played withdrew heldBy edgeCount
+    table skip checkRest afterCheck listChecks clashChecks priceTest priceChecks gainChecks coveredTest bareChecks evenTest checkBy freshTest cellTest allBelow
+    skipOpening skipAll afterArrive afterWithdraw played withdrew heldBy edgeCount
     offerOf bestOf placedAt displaced handOver bidOf settleOf firstOf withinTest orderTest edgeChecks edgesChecks rowTo
     opened slackTest openBy openOf arriveRest entered arrivalOf arrivedOf arriveBy withdrawRest released withdrawalOf withdrawnOf withdrawBy
 computed = refl

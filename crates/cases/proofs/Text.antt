@@ -1,28 +1,33 @@
 -- Case 1 as a text, by computation. The boards on the way are sound, so the test of soundness need not be computed.
 use mathlib.Core.Path.{_≡_, refl, ap, _∙_}
-use mathlib.Core.Bool.{Bool, true, false, cond}
-use mathlib.Core.List.{List, [], _∷_}
+use mathlib.Core.Bool.{cond}
+use mathlib.Core.List.{List}
 use Prim.Native.Nat.{ℕ, zero, suc, _+_}
 use lib.ListN.{length}
 use lib.Dec.{ltb}
 use Rattle.text.specs.Number.{fieldAt}
 use Rattle.text.specs.Line.{fieldsAt, lineAt}
 use Rattle.text.specs.Print.{decimal}
-use Rattle.auction.specs.declared.board.Auction.{Auction}
-use Rattle.auction.specs.declared.board.Edge.{Edge}
-use Rattle.auction.specs.declared.calls.Arrived.{Arrived}
-use Rattle.auction.specs.declared.calls.Arrival.{Arrival}
-use Rattle.auction.specs.declared.calls.Withdrawn.{Withdrawn}
-use Rattle.auction.specs.declared.calls.Withdrawal.{Withdrawal}
-use Rattle.auction.specs.declared.replay.Replayed.{Replayed}
-use Rattle.auction.specs.Sound.{Sound}
-use Rattle.auction.specs.Live.{heldBy}
-use Rattle.auction.specs.Potential.{edgeCount}
-use Rattle.auction.specs.Rule.{Outcome, done, spent, offerOf, bestOf, placedAt, displaced, handOver, bidOf, settleOf}
-use Rattle.auction.specs.Edges.{withinTest, orderTest, edgeChecks, edgesChecks, rowTo}
-use Rattle.auction.specs.Refusals.{firstOf}
-use Rattle.auction.specs.Calls.{opened, slackTest, openBy, openOf, entered, arrivalOf, arrivedOf, arriveRest, arriveBy, arriveOf, withdrawRest, withdrawBy, withdrawOf}
-use Rattle.auction.specs.Replay.{pairsOf, Command, opens, arrives, withdraws, malformed, commandOf, finished, afterArrived, afterArrival, afterWithdrawn, afterWithdrawal, carryOut, linesFrom, afterOpened, firstLine, replayOf}
+use Rattle.board.specs.declared.record.Auction.{Auction}
+use Rattle.board.specs.declared.record.Edge.{Edge}
+use Rattle.auction.specs.declared.arrive.Arrived.{Arrived}
+use Rattle.auction.specs.declared.arrive.Arrival.{Arrival}
+use Rattle.auction.specs.declared.withdraw.Withdrawn.{Withdrawn}
+use Rattle.auction.specs.declared.withdraw.Withdrawal.{Withdrawal}
+use Rattle.replay.specs.declared.Replayed.{Replayed}
+use Rattle.board.specs.Sound.{Sound}
+use Rattle.board.specs.Live.{heldBy}
+use Rattle.bidding.specs.Potential.{edgeCount}
+use Rattle.bidding.specs.Rule.{Outcome, done, spent, offerOf, bestOf, placedAt, displaced, handOver, bidOf, settleOf}
+use Rattle.board.specs.Ranges.{withinTest, slackTest}
+use Rattle.auction.specs.Edges.{orderTest, edgeChecks, edgesChecks, rowTo}
+use Rattle.refusals.specs.Demand1.{firstOf}
+use Rattle.board.specs.Opening.{opened, openBy, openOf}
+use Rattle.bidding.specs.Moves.{entered, arrivedOf}
+use Rattle.auction.specs.Arrive.{arrivalOf, arriveRest, arriveBy, arriveOf}
+use Rattle.auction.specs.Withdraw.{withdrawRest, withdrawBy, withdrawOf}
+use Rattle.replay.specs.Replay.{pairsOf, Command, opens, arrives, withdraws, malformed, commandOf, finished}
+use Rattle.replay.specs.Replay.{afterArrived, afterArrival, afterWithdrawn, afterWithdrawal, carryOut, linesFrom, afterOpened, firstLine, replayOf}
 use Rattle.auction.proofs.Demand2.{arrive-demand-2, withdraw-demand-2}
 use Rattle.history.specs.Output.{bidderLines, itemLines, outputOf}
 use Rattle.history.specs.Plan.{sheetOf, printedBy, printed}

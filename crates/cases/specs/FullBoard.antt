@@ -4,10 +4,10 @@ use mathlib.Core.Bool.{true, false}
 use mathlib.Core.List.{List, [], _∷_}
 use Prim.Native.Nat.{ℕ, zero, suc, _+_, _*_}
 use lib.ListN.{replicate, set}
-use Rattle.auction.specs.declared.board.Auction.{Auction}
-use Rattle.auction.specs.Limits.{maxItems, maxBidders}
-use Rattle.auction.specs.Cells.{scaled}
-use Rattle.auction.specs.SoundTest.{soundTest}
+use Rattle.board.specs.declared.record.Auction.{Auction}
+use Rattle.board.specs.Limits.{maxItems, maxBidders}
+use Rattle.board.specs.Cells.{scaled}
+use Rattle.board.specs.SoundTest.{soundTest}
 
 -- The numbers from i on, n of them
 unfoldable pub count : ℕ → ℕ → List ℕ
@@ -18,13 +18,8 @@ count i (suc n) = i ∷ count (i + 1) n
 unfoldable pub full : ℕ → Auction
 full w =
     record {
-      items = maxItems;
-      slack = record { p = 1; q = 2 };
-      arrived = maxBidders;
-      price = replicate maxItems (scaled 3);
-      holder = count 1 maxItems;
-      withdrawn = replicate maxItems false;
-      gain = replicate maxBidders (scaled 0);
+      market = record { items = maxItems; slack = record { p = 1; q = 2 }; arrived = maxBidders; withdrawn = replicate maxItems false };
+      state = record { price = replicate maxItems (scaled 3); holder = count 1 maxItems; gain = replicate maxBidders (scaled 0) };
       weights = set (replicate (maxBidders * maxItems) 1) 8191 w;
     }
 

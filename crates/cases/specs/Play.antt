@@ -1,24 +1,23 @@
 -- A history of calls, played over the meanings of the calls.
-use mathlib.Core.List.{List, [], _∷_, map}
-use Prim.Native.Nat.{ℕ, zero, suc, _+_}
-use lib.ListN.{take}
-use Rattle.duality.specs.Matching.{weightOf}
+use mathlib.Core.List.{List, [], _∷_}
+use Prim.Native.Nat.{ℕ, zero, suc}
 use Rattle.duality.specs.Cover.{total}
 use Rattle.duality.specs.Greatest.{greatestWeight}
-use Rattle.auction.specs.declared.board.Auction.{Auction}
-use Rattle.auction.specs.declared.board.Edge.{Edge}
-use Rattle.auction.specs.declared.refusal.Refusal.{Refusal}
-use Rattle.auction.specs.declared.calls.Opened.{Opened}
-use Rattle.auction.specs.declared.calls.Opening.{Opening}
-use Rattle.auction.specs.declared.calls.Arrived.{Arrived}
-use Rattle.auction.specs.declared.calls.Arrival.{Arrival}
-use Rattle.auction.specs.declared.calls.Withdrawn.{Withdrawn}
-use Rattle.auction.specs.declared.calls.Withdrawal.{Withdrawal}
-use Rattle.auction.specs.Cells.{edge, priceAt, gainAt}
-use Rattle.auction.specs.Live.{live, matchingOf}
-use Rattle.auction.specs.Rule.{Outcome, done, spent}
-use Rattle.auction.specs.Refusals.{Code, codeOf}
-use Rattle.auction.specs.Calls.{Lists, openOf, arriveOf, withdrawOf}
+use Rattle.board.specs.declared.record.Auction.{Auction}
+use Rattle.board.specs.declared.record.Edge.{Edge}
+use Rattle.board.specs.declared.opening.Opened.{Opened}
+use Rattle.auction.specs.declared.arrive.Arrived.{Arrived}
+use Rattle.auction.specs.declared.arrive.Arrival.{Arrival}
+use Rattle.auction.specs.declared.withdraw.Withdrawn.{Withdrawn}
+use Rattle.auction.specs.declared.withdraw.Withdrawal.{Withdrawal}
+use Rattle.board.specs.Cells.{priceAt, gainAt}
+use Rattle.board.specs.Live.{live, matchingOf, matchingWeight}
+use Rattle.bidding.specs.Rule.{Outcome, done, spent}
+use Rattle.refusals.specs.Codes.{Code, codeOf}
+use Rattle.board.specs.Lent.{Lists}
+use Rattle.board.specs.Opening.{openOf}
+use Rattle.auction.specs.Arrive.{arriveOf}
+use Rattle.auction.specs.Withdraw.{withdrawOf}
 use Rattle.certificate.specs.declared.Checked.{Checked}
 use Rattle.certificate.specs.Check.{checkOf}
 
@@ -50,15 +49,15 @@ abbrev pub refusal : Code → Seen
 refusal c = refused (c .number) (c .place)
 
 -- The first n values of a function
-abbrev pub firstOf : ℕ → (ℕ → ℕ) → List ℕ
-firstOf zero f = []
-firstOf (suc n) f = f 0 ∷ firstOf n (λ i. f (suc i))
+abbrev pub firstCells : ℕ → (ℕ → ℕ) → List ℕ
+firstCells zero f = []
+firstCells (suc n) f = f 0 ∷ firstCells n (λ i. f (suc i))
 
 abbrev pub seen : Auction → List ℕ → Seen
 seen b bids =
-    board (firstOf (b .arrived) (matchingOf b)) (firstOf (b .arrived) (gainAt b)) (firstOf (b .items) (priceAt b))
-    (weightOf (b .arrived) (live b) (matchingOf b)) (total (b .arrived) (b .items) (priceAt b) (gainAt b))
-    (greatestWeight (b .arrived) (b .items) (live b)) bids
+    board (firstCells (b .market .arrived) (matchingOf b)) (firstCells (b .market .arrived) (gainAt b)) (firstCells (b .market .items) (priceAt b))
+    (matchingWeight b) (total (b .market .arrived) (b .market .items) (priceAt b) (gainAt b))
+    (greatestWeight (b .market .arrived) (b .market .items) (live b)) bids
 
 unfoldable pub played : (Auction → List ℕ → Seen) → List ℕ → Auction → Arrived → Seen
 played next bids b (Arrived.Bids n) = next b (n ∷ bids)

@@ -1,9 +1,8 @@
 -- The table of the starred cases: each case as document 01 gives it, and what is seen.
 use mathlib.Core.Path.{_≡_}
 use mathlib.Core.List.{List, [], _∷_, map}
-use Prim.Native.Nat.{ℕ}
-use Rattle.auction.specs.Cells.{edge}
-use Rattle.auction.specs.Calls.{Lists, lists}
+use Rattle.board.specs.Cells.{edge}
+use Rattle.board.specs.Lent.{Lists, lists}
 use Rattle.cases.specs.Play.{Call, arrive, withdraw, check, Case, on, Seen, board, totals, refused, play}
 
 -- 1 "The text above"

@@ -4,20 +4,22 @@ use Prim.Native.Nat.{ℕ, zero, suc, _≤_, _<_}
 use native.Mathlib.Omega.{arith}
 use Rattle.duality.specs.Matching.{IsMatching}
 use Rattle.duality.specs.Lists.{cells}
-use Rattle.auction.specs.declared.board.Auction.{Auction}
-use Rattle.auction.specs.declared.refusal.Verdict.the-variants.{Served}
-use Rattle.auction.specs.Sound.{Sound, SlackIn}
-use Rattle.auction.specs.Refusals.{firstOf}
-use Rattle.auction.specs.Calls.{Lists}
-use Rattle.auction.proofs.Tests.{slack-decides}
-use Rattle.auction.proofs.SoundLaw.{sound-decides}
-use Rattle.auction.proofs.Verdicts.{first-on}
+use Rattle.board.specs.declared.record.Auction.{Auction}
+use Rattle.refusals.specs.declared.Verdict.the-variants.{Served}
+use Rattle.board.specs.Live.{live}
+use Rattle.board.specs.Sound.{Sound}
+use Rattle.board.specs.Ranges.{SlackIn}
+use Rattle.refusals.specs.Demand1.{firstOf}
+use Rattle.board.specs.Lent.{Lists}
+use Rattle.board.proofs.Tests.{slack-decides}
+use Rattle.board.proofs.SoundLaw.{sound-decides}
+use Rattle.refusals.proofs.Verdicts.{first-on}
 use Rattle.certificate.specs.Check.{Even, checkChecks, checkBy, checkOf, listChecks, checkRest}
 use Rattle.certificate.specs.Accepted.{Accepted, TotalsAccepted, AcceptedTotals}
 use Rattle.certificate.proofs.Places.{served-next, next-serves, served-both}
 use Rattle.certificate.proofs.Served.{clash-served, price-served, gain-served, bare-served}
 use Rattle.certificate.proofs.Tests.{lists-even}
-use Rattle.certificate.proofs.Outcomes.{by-totals}
+use Rattle.certificate.proofs.Outcomes.{listsOf, by-totals}
 
 -- A plan's cells are items of the board, or 0
 pub cell-within : {n m : ℕ} {w : ℕ → ℕ → ℕ} {plan : ℕ → ℕ} → IsMatching n m w plan → (i : ℕ) → i < n → plan i ≤ m
@@ -28,8 +30,18 @@ cell-within {m = m} {plan = plan} h i l = go (plan i) refl
     go (suc k) e = h .along i k l e .0
 
 module _ (b : Auction) (l : Lists) (p q : ℕ) where
+  -- The bidders, the items and the live weights
+  abbrev n : ℕ
+  n = b .market .arrived
+
+  abbrev m : ℕ
+  m = b .market .items
+
+  abbrev w : ℕ → ℕ → ℕ
+  w = live b
+
   -- Of a sound board, a slack in its range and lists of the right lengths, the lists' own refusals decide
-  pub lists-accepted : Sound b → SlackIn 0 p q → Even b l → firstOf (listChecks b l p q) ≡ Served → Accepted b l p q
+  pub lists-accepted : Sound b → SlackIn 0 p q → Even b l → firstOf (listsOf b l p q) ≡ Served → Accepted b l p q
   unfolding listChecks
   lists-accepted sound slack even e =
       let (plan, e₁) = served-both _ _ e in
@@ -39,15 +51,15 @@ module _ (b : Auction) (l : Lists) (p q : ℕ) where
         sound = sound;
         slack = slack;
         even = even;
-        matches = clash-served b (b .arrived) (cells (l .plan)) .0 plan;
-        prices = λ k h. price-served b (b .items) (cells (l .prices)) .0 prices k h .0;
-        withdrawn = λ k h. price-served b (b .items) (cells (l .prices)) .0 prices k h .1;
-        gains = gain-served (b .items) (b .arrived) (cells (l .gains)) .0 gains;
-        covers = bare-served b (b .arrived) p q (cells (l .prices)) (cells (l .gains)) .0 bare;
+        matches = clash-served n m w (cells (l .plan)) .0 plan;
+        prices = λ k h. price-served m (b .market .withdrawn) (cells (l .prices)) .0 prices k h .0;
+        withdrawn = λ k h. price-served m (b .market .withdrawn) (cells (l .prices)) .0 prices k h .1;
+        gains = gain-served n m (cells (l .gains)) .0 gains;
+        covers = bare-served n m w p q (cells (l .prices)) (cells (l .gains)) .0 bare;
       }
 
   accepted : firstOf (checkChecks b l p q) ≡ Served → Accepted b l p q
-  unfolding checkRest listChecks
+  unfolding checkRest
   accepted e =
       let (sound, e₁) = served-next _ _ _ e in
       let (slack, e₂) = served-next _ _ _ e₁ in
@@ -60,10 +72,10 @@ module _ (b : Auction) (l : Lists) (p q : ℕ) where
       next-serves _ _ _ (sound-decides b .complete (a .sound))
       (next-serves _ _ _ (slack-decides 0 p q .complete (a .slack))
       (next-serves _ _ _ (lists-even b l .complete (a .even))
-      (first-on _ _ (clash-served b (b .arrived) (cells (l .plan)) .1 (a .matches)) ∙
-      (first-on _ _ (price-served b (b .items) (cells (l .prices)) .1 (λ k h. (a .prices k h, a .withdrawn k h))) ∙
-      (first-on _ _ (gain-served (b .items) (b .arrived) (cells (l .gains)) .1 (a .gains)) ∙
-      bare-served b (b .arrived) p q (cells (l .prices)) (cells (l .gains)) .1 (a .covers))))))
+      (first-on _ _ (clash-served n m w (cells (l .plan)) .1 (a .matches)) ∙
+      (first-on _ _ (price-served m (b .market .withdrawn) (cells (l .prices)) .1 (λ k h. (a .prices k h, a .withdrawn k h))) ∙
+      (first-on _ _ (gain-served n m (cells (l .gains)) .1 (a .gains)) ∙
+      bare-served n m w p q (cells (l .prices)) (cells (l .gains)) .1 (a .covers))))))
 
 pub totals-accepted : TotalsAccepted
 unfolding checkOf

@@ -8,22 +8,23 @@ use native.Mathlib.Omega.{arith}
 use Rattle.duality.specs.Lists.{cells}
 use Rattle.duality.specs.Tests.{freshTest, cellTest}
 use Rattle.duality.proofs.Decide.{reword, eq-decides, true-decides, clash}
-use Rattle.auction.specs.declared.board.Auction.{Auction}
-use Rattle.auction.specs.declared.refusal.Refusal.{Refusal}
-use Rattle.auction.specs.declared.refusal.Refusal.the-variants.{Slack, Uneven, Clash, Price, Bare, Spoilt}
-use Rattle.auction.specs.declared.refusal.Verdict.{Verdict}
-use Rattle.auction.specs.declared.refusal.Verdict.the-variants.{Served, Refused}
-use Rattle.auction.specs.Cells.{withdrawnAt, weightAt}
-use Rattle.auction.specs.Live.{live}
-use Rattle.auction.specs.Sound.{Sound, SlackIn}
-use Rattle.auction.specs.Refusals.{firstOf}
-use Rattle.auction.specs.Calls.{Lists}
-use Rattle.auction.proofs.Tests.{no-decides, slack-decides}
-use Rattle.auction.proofs.SoundLaw.{sound-decides}
-use Rattle.auction.proofs.Verdicts.{Decided, next, decided-append, demand-1}
+use Rattle.board.specs.declared.record.Auction.{Auction}
+use Rattle.refusals.specs.declared.Refusal.{Refusal}
+use Rattle.refusals.specs.declared.Refusal.the-variants.{Slack, Uneven, Clash, Price, Bare, Spoilt}
+use Rattle.refusals.specs.declared.Verdict.{Verdict}
+use Rattle.refusals.specs.declared.Verdict.the-variants.{Served, Refused}
+use Rattle.board.specs.Cells.{withdrawnAt, weightAt}
+use Rattle.board.specs.Live.{live}
+use Rattle.board.specs.Sound.{Sound}
+use Rattle.board.specs.Ranges.{SlackIn}
+use Rattle.refusals.specs.Demand1.{firstOf}
+use Rattle.board.specs.Lent.{Lists}
+use Rattle.board.proofs.Tests.{no-decides, slack-decides}
+use Rattle.board.proofs.SoundLaw.{sound-decides}
+use Rattle.refusals.proofs.Verdicts.{Decided, next, decided-append, demand-1}
 use Rattle.certificate.specs.declared.Checked.{Checked}
-use Rattle.auction.specs.Limits.{maxPrice}
-use Rattle.certificate.specs.Check.{listChecks, Even, Clashes, PriceBad, Uncovered, CheckMet, clashChecks, priceTest, priceChecks, gainChecks, rowTest, bareChecks, checkChecks, checkBy, checkOf, checkRest}
+use Rattle.board.specs.Limits.{maxPrice}
+use Rattle.certificate.specs.Check.{Even, Clashes, PriceBad, Uncovered, CheckMet, clashChecks, priceTest, priceChecks, gainChecks, coveredTest, bareChecks, listChecks, checkRest, checkChecks, checkBy, checkOf}
 use Rattle.certificate.specs.Demand1.{CheckDemand1}
 use Rattle.certificate.proofs.Fails.{Fails, Somewhere, not-fails, refail, fail-lt, fail-le, fail-eq, fail-not, fail-and, fail-or, fail-all}
 use Rattle.certificate.proofs.Places.{each-decided, clash-each, price-each, gain-each, bare-each}
@@ -54,7 +55,7 @@ module _ (b : Auction) where
   module _ (plan : ℕ → ℕ) (i : ℕ) where
     -- Of a cell that names item k + 1
     Named : ℕ → Type 0
-    Named k = (b .items ≤ k) ⊎ ((live b i k ≤ 0) ⊎ Somewhere i (λ h. plan h ≡ suc k))
+    Named k = (b .market .items ≤ k) ⊎ ((live b i k ≤ 0) ⊎ Somewhere i (λ h. plan h ≡ suc k))
 
     clashes : (k : ℕ) → plan i ≡ suc k → Named k → Clashes b plan i
     unfolding Named
@@ -77,16 +78,16 @@ module _ (b : Auction) where
     unplaced e (Clashes.edgeless f z) = omega arith
     unplaced e (Clashes.named f l g) = omega arith
 
-    clash-fails : (c : ℕ) → plan i ≡ c → Fails (cellTest (b .items) (live b) plan i c) (Clashes b plan i)
+    clash-fails : (c : ℕ) → plan i ≡ c → Fails (cellTest (b .market .items) (live b) plan i c) (Clashes b plan i)
     unfolding cellTest freshTest Named
     clash-fails zero e = record { sound = λ h. absurd (clash true refl h); complete = λ x. absurd (unplaced e x) }
     clash-fails (suc k) e =
         refail
-        (fail-and (fail-lt k (b .items)) (fail-and (fail-lt 0 (live b i k)) (fail-all i _ _ (λ h. fail-not (eq-decides (plan h) (suc k))))))
+        (fail-and (fail-lt k (b .market .items)) (fail-and (fail-lt 0 (live b i k)) (fail-all i _ _ (λ h. fail-not (eq-decides (plan h) (suc k))))))
         (clashes k e)
         (clashed k e)
 
-  price-fails : (prices : ℕ → ℕ) (k : ℕ) → Fails (priceTest b prices k) (PriceBad b prices k)
+  price-fails : (prices : ℕ → ℕ) (k : ℕ) → Fails (priceTest (b .market .withdrawn) prices k) (PriceBad b prices k)
   unfolding priceTest
   price-fails prices k =
       refail
@@ -103,11 +104,12 @@ module _ (b : Auction) where
   some-edge c zero s l = let e : c * 0 ≡ 0 = mul-zero c in absurd (omega arith)
   some-edge c (suc v) s l = omega arith
 
-  bare-fails : (p q : ℕ) (prices gains : ℕ → ℕ) (i : ℕ) → Fails (rowTest b p q prices gains i) (Uncovered b p q prices gains i)
-  unfolding rowTest
+  bare-fails : (p q : ℕ) (prices gains : ℕ → ℕ) (i : ℕ) →
+      Fails (coveredTest (b .market .items) (live b i) p q prices (gains i)) (Uncovered b p q prices gains i)
+  unfolding coveredTest
   bare-fails p q prices gains i =
       refail
-      (fail-all (b .items) _ _ (λ k. fail-le ((q - p) * live b i k) (gains i + prices k)))
+      (fail-all (b .market .items) _ _ (λ k. fail-le ((q - p) * live b i k) (gains i + prices k)))
       (λ s. record { item = s .at; below = s .below; edge = some-edge (q - p) (live b i (s .at)) _ (s .holds); short = s .holds })
       (λ u. record { at = u .item; below = u .below; holds = u .short })
 
@@ -132,15 +134,15 @@ module _ (b : Auction) (l : Lists) (p q : ℕ) where
   -- A refusal 11 is an item's or a bidder's, by its place
   Priced : ℕ → Type 0
   Priced n =
-      ((k : ℕ) × (k < b .items) × (n ≡ suc k) × PriceBad b (cells (l .prices)) k) ⊎
-      ((i : ℕ) × (n ≡ b .items + suc i) × (maxPrice < cells (l .gains) i))
+      ((k : ℕ) × (k < b .market .items) × (n ≡ suc k) × PriceBad b (cells (l .prices)) k) ⊎
+      ((i : ℕ) × (n ≡ b .market .items + suc i) × (maxPrice < cells (l .gains) i))
 
   priced : (n : ℕ) → CheckMet b l p q (Price n) → Priced n
   unfolding Priced
   priced n (CheckMet.price {k = k} h x) = inl (k, h, refl, x)
   priced n (CheckMet.gain i x) = inr (i, refl, x)
 
-  price-met : (k : ℕ) → k < b .items → CheckMet b l p q (Price (suc k)) → PriceBad b (cells (l .prices)) k
+  price-met : (k : ℕ) → k < b .market .items → CheckMet b l p q (Price (suc k)) → PriceBad b (cells (l .prices)) k
   unfolding Priced
   price-met k h m =
       ⊎-elim
@@ -148,32 +150,32 @@ module _ (b : Auction) (l : Lists) (p q : ℕ) where
       (λ (i, e, x). absurd (omega arith))
       (priced (suc k) m)
 
-  gain-met : (i : ℕ) → CheckMet b l p q (Price (b .items + suc i)) → maxPrice < cells (l .gains) i
+  gain-met : (i : ℕ) → CheckMet b l p q (Price (b .market .items + suc i)) → maxPrice < cells (l .gains) i
   unfolding Priced
   gain-met i m =
       ⊎-elim
       (λ (k, g, e, x). absurd (omega arith))
       (λ (j, e, x). let s : i ≡ j = omega arith in rw s x)
-      (priced (b .items + suc i) m)
+      (priced (b .market .items + suc i) m)
 
-  clash-decided : Decided (CheckMet b l p q) (clashChecks b (cells (l .plan)) 0 (b .arrived))
+  clash-decided : Decided (CheckMet b l p q) (clashChecks (b .market .items) (live b) (cells (l .plan)) 0 (b .market .arrived))
   clash-decided =
-      rw clash-each (each-decided _ _ 0 (b .arrived)
+      rw clash-each (each-decided _ _ 0 (b .market .arrived)
       (λ i h. reword (not-fails (clash-fails b (cells (l .plan)) i _ refl)) (λ x. CheckMet.clash x) (clash-met i)))
 
-  price-decided : Decided (CheckMet b l p q) (priceChecks b (cells (l .prices)) 0 (b .items))
+  price-decided : Decided (CheckMet b l p q) (priceChecks (b .market .withdrawn) (cells (l .prices)) 0 (b .market .items))
   price-decided =
-      rw price-each (each-decided _ _ 0 (b .items)
+      rw price-each (each-decided _ _ 0 (b .market .items)
       (λ k h. reword (not-fails (price-fails b (cells (l .prices)) k)) (λ x. CheckMet.price (omega arith) x) (price-met k (omega arith))))
 
-  gain-decided : Decided (CheckMet b l p q) (gainChecks (b .items) (cells (l .gains)) 0 (b .arrived))
+  gain-decided : Decided (CheckMet b l p q) (gainChecks (b .market .items) (cells (l .gains)) 0 (b .market .arrived))
   gain-decided =
-      rw gain-each (each-decided _ _ 0 (b .arrived)
+      rw gain-each (each-decided _ _ 0 (b .market .arrived)
       (λ i h. reword (not-fails (fail-le (cells (l .gains) i) maxPrice)) (λ x. CheckMet.gain i x) (gain-met i)))
 
-  bare-decided : Decided (CheckMet b l p q) (bareChecks b p q (cells (l .prices)) (cells (l .gains)) 0 (b .arrived))
+  bare-decided : Decided (CheckMet b l p q) (bareChecks (b .market .items) (live b) p q (cells (l .prices)) (cells (l .gains)) 0 (b .market .arrived))
   bare-decided =
-      rw bare-each (each-decided _ _ 0 (b .arrived)
+      rw bare-each (each-decided _ _ 0 (b .market .arrived)
       (λ i h. reword (not-fails (bare-fails b p q (cells (l .prices)) (cells (l .gains)) i)) (λ x. CheckMet.bare x) (bare-met i)))
 
   check-decided : Decided (CheckMet b l p q) (checkChecks b l p q)

@@ -8,19 +8,20 @@ use lib.ListN.{length}
 use Rattle.duality.specs.Matching.{weightOf}
 use Rattle.duality.specs.Cover.{total}
 use Rattle.duality.specs.Lists.{cells}
-use Rattle.auction.specs.declared.board.Auction.{Auction}
-use Rattle.auction.specs.declared.board.Pence.{Pence}
-use Rattle.auction.specs.declared.board.Scaled.{Scaled}
-use Rattle.auction.specs.declared.refusal.Refusal.{Refusal}
-use Rattle.auction.specs.declared.refusal.Refusal.the-variants.{Slack, Uneven, Spoilt}
-use Rattle.auction.specs.declared.refusal.Verdict.{Verdict}
-use Rattle.auction.specs.declared.refusal.Verdict.the-variants.{Served, Refused}
-use Rattle.auction.specs.Cells.{pence, scaled}
-use Rattle.auction.specs.Live.{live}
-use Rattle.auction.specs.SoundTest.{soundTest}
-use Rattle.auction.specs.Refusals.{Check, firstOf}
-use Rattle.auction.specs.Calls.{slackTest, Lists}
-use Rattle.auction.proofs.Verdicts.{first-on, first-stops}
+use Rattle.board.specs.declared.record.Auction.{Auction}
+use Rattle.board.specs.declared.units.Pence.{Pence}
+use Rattle.board.specs.declared.units.Scaled.{Scaled}
+use Rattle.refusals.specs.declared.Refusal.{Refusal}
+use Rattle.refusals.specs.declared.Refusal.the-variants.{Slack, Uneven, Spoilt}
+use Rattle.refusals.specs.declared.Verdict.{Verdict}
+use Rattle.refusals.specs.declared.Verdict.the-variants.{Served, Refused}
+use Rattle.board.specs.Cells.{pence, scaled}
+use Rattle.board.specs.Live.{live}
+use Rattle.board.specs.SoundTest.{soundTest}
+use Rattle.refusals.specs.Demand1.{Check, firstOf}
+use Rattle.board.specs.Ranges.{slackTest}
+use Rattle.board.specs.Lent.{Lists}
+use Rattle.refusals.proofs.Verdicts.{first-on, first-stops}
 use Rattle.certificate.specs.declared.Checked.{Checked}
 use Rattle.certificate.specs.Check.{evenTest, checkBy, checkOf, listChecks, checkRest}
 
@@ -31,6 +32,10 @@ stops xs ys v r e s = s ∙ sym (first-stops xs ys r (sym e ∙ s))
 pub passes : (xs ys : List Check) (v w : Verdict) → v ≡ firstOf xs → v ≡ Served → w ≡ firstOf ys → w ≡ firstOf (xs ++ ys)
 passes xs ys v w e s h = h ∙ sym (first-on xs ys (sym e ∙ s))
 
+-- The refusals 10, 11 and 12 of a board
+abbrev pub listsOf : Auction → Lists → ℕ → ℕ → List Check
+listsOf b = listChecks (b .market .arrived) (b .market .items) (b .market .withdrawn) (live b)
+
 module _ (b : Auction) (l : Lists) where
   -- Totals come of no refusal
   pub by-totals : (v : Verdict) (weight : Pence) (sum : Scaled) → checkBy b l v ≡ Checked.Totals weight sum → v ≡ Served
@@ -40,29 +45,29 @@ module _ (b : Auction) (l : Lists) where
 
   module _ (p q : ℕ) where
     pub check-spoilt : soundTest b ≡ false → Checked.Refused Spoilt ≡ checkOf b l p q
-    unfolding checkOf checkBy checkRest listChecks firstOf
+    unfolding checkOf checkBy checkRest firstOf
     check-spoilt e = rw e
 
     module _ (s : soundTest b ≡ true) where
       pub check-slack : slackTest 0 p q ≡ false → Checked.Refused Slack ≡ checkOf b l p q
-      unfolding checkOf checkBy checkRest listChecks firstOf
+      unfolding checkOf checkBy checkRest firstOf
       check-slack e = rw (s, e)
 
       module _ (t : slackTest 0 p q ≡ true) where
-        pub check-uneven : evenTest (b .arrived) (b .items) (length (l .plan)) (length (l .prices)) (length (l .gains)) ≡ false → Checked.Refused Uneven ≡ checkOf b l p q
-        unfolding checkOf checkBy checkRest listChecks firstOf
+        pub check-uneven : evenTest (b .market .arrived) (b .market .items) (length (l .plan)) (length (l .prices)) (length (l .gains)) ≡ false → Checked.Refused Uneven ≡ checkOf b l p q
+        unfolding checkOf checkBy checkRest firstOf
         check-uneven e = rw (s, t, e)
 
-        pub check-lists : evenTest (b .arrived) (b .items) (length (l .plan)) (length (l .prices)) (length (l .gains)) ≡ true →
-            checkBy b l (firstOf (listChecks b l p q)) ≡ checkOf b l p q
-        unfolding checkOf checkRest listChecks firstOf
+        pub check-lists : evenTest (b .market .arrived) (b .market .items) (length (l .plan)) (length (l .prices)) (length (l .gains)) ≡ true →
+            checkBy b l (firstOf (listsOf b l p q)) ≡ checkOf b l p q
+        unfolding checkOf checkRest firstOf
         check-lists e = rw (s, t, e)
 
   pub lists-refused : (v : Verdict) (r : Refusal) → v ≡ Refused r → Checked.Refused r ≡ checkBy b l v
   unfolding checkBy
   lists-refused v r e = rw e
 
-  pub lists-served : (v : Verdict) (weight : Pence) (sum : Scaled) → v ≡ Served → weight .0 ≡ weightOf (b .arrived) (live b) (cells (l .plan)) →
-      sum .0 ≡ total (b .arrived) (b .items) (cells (l .prices)) (cells (l .gains)) → Checked.Totals weight sum ≡ checkBy b l v
+  pub lists-served : (v : Verdict) (weight : Pence) (sum : Scaled) → v ≡ Served → weight .0 ≡ weightOf (b .market .arrived) (live b) (cells (l .plan)) →
+      sum .0 ≡ total (b .market .arrived) (b .market .items) (cells (l .prices)) (cells (l .gains)) → Checked.Totals weight sum ≡ checkBy b l v
   unfolding checkBy
   lists-served v weight sum e f g = rw e (ap₂ Checked.Totals (ap pence f) (ap scaled g))

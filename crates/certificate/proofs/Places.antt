@@ -11,44 +11,45 @@ use lib.Dec.{leb}
 use Rattle.duality.specs.Decide.{Decides, allBelow}
 use Rattle.duality.specs.Tests.{cellTest}
 use Rattle.duality.proofs.Decide.{reword, true-decides, all-decides}
-use Rattle.auction.specs.declared.board.Auction.{Auction}
-use Rattle.auction.specs.declared.refusal.Refusal.{Refusal}
-use Rattle.auction.specs.declared.refusal.Refusal.the-variants.{Clash, Price, Bare}
-use Rattle.auction.specs.declared.refusal.Verdict.{Verdict}
-use Rattle.auction.specs.declared.refusal.Verdict.the-variants.{Served, Refused}
-use Rattle.auction.specs.Live.{live}
-use Rattle.auction.specs.Refusals.{Check, check, firstOf}
-use Rattle.auction.proofs.Verdicts.{Decided, ends, next, first-on, first-stops}
-use Rattle.auction.specs.Limits.{maxPrice}
-use Rattle.certificate.specs.Check.{clashChecks, priceTest, priceChecks, gainChecks, rowTest, bareChecks}
+use Rattle.refusals.specs.declared.Refusal.{Refusal}
+use Rattle.refusals.specs.declared.Refusal.the-variants.{Clash, Price, Bare}
+use Rattle.refusals.specs.declared.Verdict.{Verdict}
+use Rattle.refusals.specs.declared.Verdict.the-variants.{Served, Refused}
+use Rattle.refusals.specs.Demand1.{Check, checkFor, firstOf}
+use Rattle.refusals.proofs.Verdicts.{Decided, ends, next, first-on, first-stops}
+use Rattle.board.specs.Limits.{maxPrice}
+use Rattle.certificate.specs.Check.{clashChecks, priceTest, priceChecks, gainChecks, coveredTest, bareChecks}
 
 -- Of n places from i on, the refusal of each where its test fails
 unfoldable pub each : (ℕ → Refusal) → (ℕ → Bool) → ℕ → ℕ → List Check
 each refusal test i zero = []
-each refusal test i (suc n) = check (refusal i) (not (test i)) ∷ each refusal test (suc i) n
+each refusal test i (suc n) = checkFor (refusal i) (not (test i)) ∷ each refusal test (suc i) n
 
 -- ---- The lists of refusals 10, 11 and 12 are such checks.
 
-module _ (b : Auction) where
-  pub clash-each : (plan : ℕ → ℕ) (i n : ℕ) → clashChecks b plan i n ≡ each (λ j. Clash (suc j)) (λ j. cellTest (b .items) (live b) plan j (plan j)) i n
-  unfolding clashChecks each
-  clash-each plan i zero = refl
-  clash-each plan i (suc n) = rw (clash-each plan (suc i) n)
+pub price-each : (withdrawn : List Bool) (prices : ℕ → ℕ) (k n : ℕ) →
+    priceChecks withdrawn prices k n ≡ each (λ j. Price (suc j)) (priceTest withdrawn prices) k n
+unfolding priceChecks each
+price-each withdrawn prices k zero = refl
+price-each withdrawn prices k (suc n) = rw (price-each withdrawn prices (suc k) n)
 
-  pub price-each : (prices : ℕ → ℕ) (k n : ℕ) → priceChecks b prices k n ≡ each (λ j. Price (suc j)) (priceTest b prices) k n
-  unfolding priceChecks each
-  price-each prices k zero = refl
-  price-each prices k (suc n) = rw (price-each prices (suc k) n)
+module _ (items : ℕ) where
+  pub gain-each : (gains : ℕ → ℕ) (i n : ℕ) → gainChecks items gains i n ≡ each (λ j. Price (items + suc j)) (λ j. leb (gains j) maxPrice) i n
+  unfolding gainChecks each
+  gain-each gains i zero = refl
+  gain-each gains i (suc n) = rw (gain-each gains (suc i) n)
 
-  pub bare-each : (p q : ℕ) (prices gains : ℕ → ℕ) (i n : ℕ) → bareChecks b p q prices gains i n ≡ each (λ j. Bare (suc j)) (rowTest b p q prices gains) i n
-  unfolding bareChecks each
-  bare-each p q prices gains i zero = refl
-  bare-each p q prices gains i (suc n) = rw (bare-each p q prices gains (suc i) n)
+  module _ (w : ℕ → ℕ → ℕ) where
+    pub clash-each : (plan : ℕ → ℕ) (i n : ℕ) → clashChecks items w plan i n ≡ each (λ j. Clash (suc j)) (λ j. cellTest items w plan j (plan j)) i n
+    unfolding clashChecks each
+    clash-each plan i zero = refl
+    clash-each plan i (suc n) = rw (clash-each plan (suc i) n)
 
-pub gain-each : (items : ℕ) (gains : ℕ → ℕ) (i n : ℕ) → gainChecks items gains i n ≡ each (λ j. Price (items + suc j)) (λ j. leb (gains j) maxPrice) i n
-unfolding gainChecks each
-gain-each items gains i zero = refl
-gain-each items gains i (suc n) = rw (gain-each items gains (suc i) n)
+    pub bare-each : (p q : ℕ) (prices gains : ℕ → ℕ) (i n : ℕ) →
+        bareChecks items w p q prices gains i n ≡ each (λ j. Bare (suc j)) (λ j. coveredTest items (w j) p q prices (gains j)) i n
+    unfolding bareChecks each
+    bare-each p q prices gains i zero = refl
+    bare-each p q prices gains i (suc n) = rw (bare-each p q prices gains (suc i) n)
 
 -- ---- Their verdict
 
@@ -107,12 +108,12 @@ module _ (refusal : ℕ → Refusal) (test : ℕ → Bool) where
   each-decided i (suc n) d = next (d i (omega arith)) (each-decided (suc i) n (λ j l. d j (omega arith)))
 
 -- A check, and those after it; two lists of checks, one after the other
-pub served-next : (r : Refusal) (t : Bool) (rest : List Check) → firstOf (check r (not t) ∷ rest) ≡ Served → (t ≡ true) × (firstOf rest ≡ Served)
+pub served-next : (r : Refusal) (t : Bool) (rest : List Check) → firstOf (checkFor r (not t) ∷ rest) ≡ Served → (t ≡ true) × (firstOf rest ≡ Served)
 unfolding firstOf
 served-next r true rest e = (refl, e)
 served-next r false rest e = let z : _≡_ {A = ℕ} 0 1 = cc in absurd (omega arith)
 
-pub next-serves : (r : Refusal) (t : Bool) (rest : List Check) → t ≡ true → firstOf rest ≡ Served → firstOf (check r (not t) ∷ rest) ≡ Served
+pub next-serves : (r : Refusal) (t : Bool) (rest : List Check) → t ≡ true → firstOf rest ≡ Served → firstOf (checkFor r (not t) ∷ rest) ≡ Served
 unfolding firstOf
 next-serves r t rest e h = rw e h
 

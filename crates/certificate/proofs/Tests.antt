@@ -9,9 +9,9 @@ use borrow.Author.Tests.{lt-ltb, le-ltb, not-false}
 use Rattle.duality.specs.Decide.{Decides, allBelow}
 use Rattle.duality.specs.Tests.{freshTest, cellTest}
 use Rattle.duality.proofs.Decide.{reword, eq-decides, le-decides, and-decides, or-decides}
-use Rattle.auction.specs.declared.board.Auction.{Auction}
-use Rattle.auction.specs.Calls.{Lists}
-use Rattle.auction.specs.Limits.{maxPrice}
+use Rattle.board.specs.declared.record.Auction.{Auction}
+use Rattle.board.specs.Lent.{Lists}
+use Rattle.board.specs.Limits.{maxPrice}
 use Rattle.certificate.specs.Check.{Even, evenTest}
 
 -- A cell per bidder, per item, per bidder, and no more
@@ -22,7 +22,7 @@ even-decides bidders items plan prices gains =
     and-decides (eq-decides plan bidders) (and-decides (eq-decides prices items) (eq-decides gains bidders))
 
 pub lists-even : (b : Auction) (l : Lists) →
-    Decides (evenTest (b .arrived) (b .items) (length (l .plan)) (length (l .prices)) (length (l .gains))) (Even b l)
+    Decides (evenTest (b .market .arrived) (b .market .items) (length (l .plan)) (length (l .prices)) (length (l .gains))) (Even b l)
 lists-even b l =
     reword (even-decides _ _ _ _ _)
     (λ h. record { plan = h .0; prices = h .1 .0; gains = h .1 .1 })

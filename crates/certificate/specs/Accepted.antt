@@ -5,15 +5,16 @@ use Prim.Native.Nat.{ℕ, _-_, _≤_, _<_}
 use Rattle.duality.specs.Matching.{IsMatching, weightOf}
 use Rattle.duality.specs.Cover.{Covers, total}
 use Rattle.duality.specs.Lists.{cells}
-use Rattle.auction.specs.declared.board.Auction.{Auction}
-use Rattle.auction.specs.declared.board.Pence.{Pence}
-use Rattle.auction.specs.declared.board.Scaled.{Scaled}
-use Rattle.auction.specs.Cells.{pence, scaled, withdrawnAt}
-use Rattle.auction.specs.Live.{live}
-use Rattle.auction.specs.Sound.{Sound, SlackIn}
-use Rattle.auction.specs.Calls.{Lists}
+use Rattle.board.specs.declared.record.Auction.{Auction}
+use Rattle.board.specs.declared.units.Pence.{Pence}
+use Rattle.board.specs.declared.units.Scaled.{Scaled}
+use Rattle.board.specs.Cells.{pence, scaled, withdrawnAt}
+use Rattle.board.specs.Live.{live}
+use Rattle.board.specs.Sound.{Sound}
+use Rattle.board.specs.Ranges.{SlackIn}
+use Rattle.board.specs.Lent.{Lists}
 use Rattle.certificate.specs.declared.Checked.{Checked}
-use Rattle.auction.specs.Limits.{maxPrice}
+use Rattle.board.specs.Limits.{maxPrice}
 use Rattle.certificate.specs.Check.{Even, checkOf}
 
 -- "The check takes a sound board, a plan, a price and a gain list of exact length, and a slack, here with p from 0"
@@ -22,13 +23,13 @@ pub record Accepted (b : Auction) (l : Lists) (p q : ℕ) : Type 0 where
   pub slack : SlackIn 0 p q
   pub even : Even b l
   -- "A plan gives each batch one kettle or none, only along entries, and no kettle to two batches"
-  pub matches : IsMatching (b .arrived) (b .items) (live b) (cells (l .plan))
+  pub matches : IsMatching (b .market .arrived) (b .market .items) (live b) (cells (l .plan))
   -- "above 1,000,000,000, or a withdrawn kettle's not 0" is met nowhere
-  pub prices : (k : ℕ) → k < b .items → cells (l .prices) k ≤ maxPrice
-  pub withdrawn : (k : ℕ) → k < b .items → withdrawnAt b k ≡ true → cells (l .prices) k ≡ 0
-  pub gains : (i : ℕ) → i < b .arrived → cells (l .gains) i ≤ maxPrice
+  pub prices : (k : ℕ) → k < b .market .items → cells (l .prices) k ≤ maxPrice
+  pub withdrawn : (k : ℕ) → k < b .market .items → withdrawnAt b k ≡ true → cells (l .prices) k ≡ 0
+  pub gains : (i : ℕ) → i < b .market .arrived → cells (l .gains) i ≤ maxPrice
   -- "Covering means gain plus price at least (q - p) × w on every live entry"
-  pub covers : Covers (b .arrived) (b .items) (live b) (q - p) (cells (l .prices)) (cells (l .gains))
+  pub covers : Covers (b .market .arrived) (b .market .items) (live b) (q - p) (cells (l .prices)) (cells (l .gains))
 
 abbrev pub TotalsAccepted : Type 0
 TotalsAccepted = (b : Auction) (l : Lists) (p q : ℕ) (weight : Pence) (sum : Scaled) → checkOf b l p q ≡ Checked.Totals weight sum → Accepted b l p q
@@ -39,4 +40,4 @@ AcceptedTotals =
     (b : Auction) (l : Lists) (p q : ℕ) →
     Accepted b l p q →
     checkOf b l p q ≡
-    Checked.Totals (pence (weightOf (b .arrived) (live b) (cells (l .plan)))) (scaled (total (b .arrived) (b .items) (cells (l .prices)) (cells (l .gains))))
+    Checked.Totals (pence (weightOf (b .market .arrived) (live b) (cells (l .plan)))) (scaled (total (b .market .arrived) (b .market .items) (cells (l .prices)) (cells (l .gains))))

@@ -4,11 +4,11 @@ use Prim.Native.Nat.{ℕ}
 use Rattle.duality.specs.Matching.{weightOf}
 use Rattle.duality.specs.Cover.{total}
 use Rattle.duality.specs.Lists.{cells}
-use Rattle.auction.specs.declared.board.Auction.{Auction}
-use Rattle.auction.specs.Cells.{pence, scaled}
-use Rattle.auction.specs.Live.{live}
-use Rattle.auction.specs.Refusals.{Demand1}
-use Rattle.auction.specs.Calls.{Lists}
+use Rattle.board.specs.declared.record.Auction.{Auction}
+use Rattle.board.specs.Cells.{pence, scaled}
+use Rattle.board.specs.Live.{live}
+use Rattle.refusals.specs.Demand1.{Demand1}
+use Rattle.board.specs.Lent.{Lists}
 use Rattle.certificate.specs.declared.Checked.{Checked}
 use Rattle.certificate.specs.Check.{CheckMet, checkChecks, checkOf}
 
@@ -18,4 +18,4 @@ CheckDemand1 =
     Demand1 (CheckMet b l p q) (checkChecks b l p q)
     (λ r. checkOf b l p q ≡ Checked.Refused r)
     (checkOf b l p q ≡
-    Checked.Totals (pence (weightOf (b .arrived) (live b) (cells (l .plan)))) (scaled (total (b .arrived) (b .items) (cells (l .prices)) (cells (l .gains)))))
+    Checked.Totals (pence (weightOf (b .market .arrived) (live b) (cells (l .plan)))) (scaled (total (b .market .arrived) (b .market .items) (cells (l .prices)) (cells (l .gains)))))

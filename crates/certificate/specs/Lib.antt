@@ -2,4 +2,3 @@
 pub mod Check
 pub mod Demand1
 pub mod Accepted
-pub mod Lent

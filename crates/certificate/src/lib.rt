@@ -9,23 +9,22 @@ use crate::cover::prices_verdict;
 use crate::cover::sum_of;
 use crate::matching::plan_verdict;
 use crate::matching::plan_weight;
-use auction::board::Auction;
-use auction::board::Pence;
-use auction::board::Scaled;
-use auction::board::Slack;
-use auction::calls::is_slack;
-use auction::refusal::Refusal;
-use auction::refusal::Verdict;
-use auction::sound::is_sound;
+use board::ranges::is_slack;
+use board::record::Auction;
+use board::sound::is_sound_in;
+use board::units::Pence;
+use board::units::Scaled;
+use board::units::Slack;
+use refusals::Refusal;
+use refusals::Verdict;
 ghost use mathlib.Core.Path.{_≡_};
 ghost use Prim.Native.Nat.{_≤_, _<_};
 ghost use lib.ListN.{length};
-ghost use Rattle.auction.specs.declared.board.Auction.{Auction as Board};
-ghost use Rattle.auction.specs.Limits.{maxItems, maxBidders, maxQ};
-ghost use Rattle.auction.specs.Refusals.{firstOf};
-ghost use Rattle.auction.specs.Calls.{lists};
+ghost use Rattle.board.specs.Live.{liveOf};
+ghost use Rattle.board.specs.Limits.{maxItems, maxBidders, maxQ};
+ghost use Rattle.refusals.specs.Demand1.{firstOf};
+ghost use Rattle.board.specs.Lent.{lists};
 ghost use Rattle.certificate.specs.Check.{evenTest, checkOf, listChecks};
-ghost use Rattle.certificate.specs.Lent.{lent};
 
 // The matching's weight, and the sum of prices and gains; or the refusal.
 pub enum Checked {
@@ -56,7 +55,8 @@ fn lists_verdict<'a>(
     gains: &[u64],
 ) -> Verdict
     requires { ⌜ (length (now plan) ≤ maxBidders) × (length (now prices) ≤ maxItems) × (length (now gains) ≡ length (now plan)) × (slack .p < slack .q) × (slack .q ≤ maxQ) ⌝ }
-    ensures { λ r. ⌜ ((b : Board) → r ≡ firstOf (listChecks (lent b (length (now (plan .entry))) (length (now (prices .entry))) (now (withdrawn .entry)) (now (weights .entry))) (lists (now (plan .entry)) (now (prices .entry)) (now (gains .entry))) (slack .p) (slack .q))) ⌝ }
+    ensures { λ r. ⌜ r ≡ firstOf (listChecks (length (now (plan .entry))) (length (now (prices .entry))) (now (withdrawn .entry))
+        (liveOf (now (withdrawn .entry)) (now (weights .entry))) (lists (now (plan .entry)) (now (prices .entry)) (now (gains .entry))) (slack .p) (slack .q)) ⌝ }
 {
     let items = prices.len() as u64;
     let matched = plan_verdict(weights, withdrawn, items, plan);
@@ -85,27 +85,29 @@ pub fn check(
 ) -> Checked
     ensures { λ r. ⌜ r ≡ checkOf auction (lists (now (plan .entry)) (now (prices .entry)) (now (gains .entry))) p q ⌝ }
 {
-    if !is_sound(auction) {
+    let market = auction.market;
+    let state = auction.state;
+    if !is_sound_in(market, &auction.weights, state) {
         return Checked::Refused(Refusal::Spoilt);
     }
     if !is_slack(0, p, q) {
         return Checked::Refused(Refusal::Slack);
     }
-    let bidders = auction.arrived as usize;
-    let items = auction.items as usize;
+    let bidders = market.arrived as usize;
+    let items = market.items as usize;
     if !is_even(bidders, items, plan.len(), prices.len(), gains.len()) {
         return Checked::Refused(Refusal::Uneven);
     }
     let verdict = lists_verdict(
         &auction.weights,
-        &auction.withdrawn,
+        &market.withdrawn,
         Slack { p, q },
         plan,
         prices,
         gains,
     );
     let Verdict::Refused(refusal) = verdict else {
-        let weight = plan_weight(&auction.weights, &auction.withdrawn, plan);
+        let weight = plan_weight(&auction.weights, &market.withdrawn, plan);
         let priced = sum_of(prices);
         let gained = sum_of(gains);
         return Checked::Totals(weight, Scaled(priced + gained));

@@ -1,17 +1,11 @@
 // The live edges of a board, of which the weights and the withdrawn items are lent.
-use auction::board::Auction;
-use auction::board::Pence;
+use board::record::Auction;
+use board::units::Pence;
+use board::units::weight_in;
 ghost use mathlib.Core.Path.{_≡_};
 ghost use Prim.Native.Nat.{_<_};
-ghost use Rattle.auction.specs.Limits.{maxItems, maxBidders};
-ghost use Rattle.certificate.specs.Lent.{liveOf};
-
-// The weight in a row's cell.
-fn weight_in(cell: u32) -> Pence
-    ensures { λ r. ⌜ (r .0 ≡ cell) × (r .0 < 4294967296) ⌝ }
-{
-    Pence(cell as u64)
-}
+ghost use Rattle.board.specs.Limits.{maxItems, maxBidders, wordLimit};
+ghost use Rattle.board.specs.Live.{liveOf};
 
 // The weight of the live edge between a bidder and an item, 0 where there is none.
 pub(crate) fn live_weight<'a>(
@@ -21,7 +15,7 @@ pub(crate) fn live_weight<'a>(
     item: usize,
 ) -> Pence
     requires { ⌜ (bidder < maxBidders) × (item < maxItems) ⌝ }
-    ensures { λ r. ⌜ (r .0 ≡ liveOf (now (withdrawn .entry)) (now (weights .entry)) bidder item) × (r .0 < 4294967296) ⌝ }
+    ensures { λ r. ⌜ (r .0 ≡ liveOf (now (withdrawn .entry)) (now (weights .entry)) bidder item) × (r .0 < wordLimit) ⌝ }
 {
     let weight = weight_in(weights[bidder * Auction::MAX_ITEMS + item]);
     if withdrawn[item] {

@@ -1,9 +1,9 @@
 // A matching that was made elsewhere (document 01: a plan), against the live edges.
 use crate::live::live_weight;
-use auction::board::Auction;
-use auction::board::Pence;
-use auction::refusal::Refusal;
-use auction::refusal::Verdict;
+use board::record::Auction;
+use board::units::Pence;
+use refusals::Refusal;
+use refusals::Verdict;
 ghost use mathlib.Core.Path.{_≡_};
 ghost use mathlib.Core.Bool.{not};
 ghost use Prim.Native.Nat.{ℕ, _≤_, _<_};
@@ -13,11 +13,10 @@ ghost use Rattle.duality.specs.Decide.{allBelow};
 ghost use Rattle.duality.specs.Lists.{cells};
 ghost use Rattle.duality.specs.Matching.{atCell, weightOf};
 ghost use Rattle.duality.specs.Tests.{cellTest};
-ghost use Rattle.auction.specs.declared.board.Auction.{Auction as Board};
-ghost use Rattle.auction.specs.Limits.{maxItems, maxBidders};
-ghost use Rattle.auction.specs.Refusals.{firstOf};
+ghost use Rattle.board.specs.Live.{liveOf};
+ghost use Rattle.board.specs.Limits.{maxItems, maxBidders, wordLimit};
+ghost use Rattle.refusals.specs.Demand1.{firstOf};
 ghost use Rattle.certificate.specs.Check.{clashChecks};
-ghost use Rattle.certificate.specs.Lent.{lent, liveOf};
 
 // Whether no bidder before one names an item.
 fn is_fresh(plan: &[u64], bidder: usize, item: u64) -> bool
@@ -67,7 +66,7 @@ pub(crate) fn plan_verdict<'a>(
     plan: &[u64],
 ) -> Verdict
     requires { ⌜ (length (now plan) ≤ maxBidders) × (items ≤ maxItems) ⌝ }
-    ensures { λ r. ⌜ ((b : Board) → r ≡ firstOf (clashChecks (lent b (b .arrived) items (now (withdrawn .entry)) (now (weights .entry))) (cells (now (plan .entry))) 0 (length (now (plan .entry))))) ⌝ }
+    ensures { λ r. ⌜ r ≡ firstOf (clashChecks items (liveOf (now (withdrawn .entry)) (now (weights .entry))) (cells (now (plan .entry))) 0 (length (now (plan .entry)))) ⌝ }
 {
     let mut i: usize = 0;
     while i < plan.len() {
@@ -87,7 +86,7 @@ fn cell_weight<'a>(
     cell: u64,
 ) -> Pence
     requires { ⌜ (bidder < maxBidders) × (cell ≤ maxItems) ⌝ }
-    ensures { λ r. ⌜ (r .0 ≡ atCell (liveOf (now (withdrawn .entry)) (now (weights .entry)) bidder) cell) × (r .0 < 4294967296) ⌝ }
+    ensures { λ r. ⌜ (r .0 ≡ atCell (liveOf (now (withdrawn .entry)) (now (weights .entry)) bidder) cell) × (r .0 < wordLimit) ⌝ }
 {
     if cell == 0 {
         return Pence(0);

@@ -6,7 +6,6 @@ use native.Mathlib.Decide.{decLt}
 use native.Mathlib.Omega.{arith}
 use Rattle.duality.specs.Sums.{sumTo}
 use Rattle.duality.specs.Matching.{atCell}
-use Rattle.duality.specs.Cover.{Tight}
 use Rattle.duality.specs.ComplementarySlackness.{ComplementarySlackness}
 use Rattle.duality.proofs.Sums.{sumTo-le, sumTo-lt, sumTo-add}
 use Rattle.duality.proofs.HeldPrices.{held-le, unheld-zero}

@@ -1,13 +1,12 @@
 -- Lists and their cells.
-use mathlib.Core.Path.{_≡_, refl, ap, _∙_, fun-ext}
+use mathlib.Core.Path.{_≡_, refl, ap, _∙_}
 use mathlib.Core.List.{List, [], _∷_}
 use Prim.Native.Nat.{ℕ, zero, suc, _+_, _<_}
 use native.Mathlib.Nat.{le-of-suc-le-suc, not-suc-le-zero}
-use lib.ListN.{length, set}
-use lib.Seq.{getD-set-same, getD-set-other}
-use Rattle.duality.specs.Sums.{sumTo, upd}
+use lib.ListN.{length}
+use Rattle.duality.specs.Sums.{sumTo}
 use Rattle.duality.specs.Lists.{cells, sum}
-use Rattle.duality.proofs.Sums.{sumTo-head, upd-all}
+use Rattle.duality.proofs.Sums.{sumTo-head}
 
 -- The sum of a list is that of its cells
 pub sum-cells : (l : List ℕ) → sumTo (length l) (cells l) ≡ sum l

@@ -27,8 +27,8 @@ instead a x t =
 
 module _ (n m : ℕ) (w : ℕ → ℕ → ℕ) (c : ℕ) where
   -- Nobody waits
-  abbrev pub Settled : Type 0
-  Settled = (matching : ℕ → ℕ) × (price : ℕ → ℕ) × (gain : ℕ → ℕ)
+  abbrev pub SettledFully : Type 0
+  SettledFully = (matching : ℕ → ℕ) × (price : ℕ → ℕ) × (gain : ℕ → ℕ)
       × IsMatching n m w matching × Tight n m w (suc c) matching price gain × Covers n m w c price gain
 
   -- The bound of a price, and how far the prices are from it
@@ -64,8 +64,8 @@ module _ (n m : ℕ) (w : ℕ → ℕ → ℕ) (c : ℕ) where
   State t matching price gain = SettledBut n m w c (suc c) (λ i. 0 < t i) matching price gain
 
   module _ (t matching price gain : ℕ → ℕ) (s : State t matching price gain)
-      (more : (t′ matching′ price′ gain′ : ℕ → ℕ) → State t′ matching′ price′ gain′ → room price′ + sumTo n t′ < room price + sumTo n t → Settled) where
-    turn : (a : ℕ) → a < n → 0 < t a → Settled
+      (more : (t′ matching′ price′ gain′ : ℕ → ℕ) → State t′ matching′ price′ gain′ → room price′ + sumTo n t′ < room price + sumTo n t → SettledFully) where
+    turn : (a : ℕ) → a < n → 0 < t a → SettledFully
     turn a la here =
         ⊎-elim
         (λ z. more (upd a 0 t) matching price gain
@@ -79,18 +79,18 @@ module _ (n m : ℕ) (w : ℕ → ℕ → ℕ) (c : ℕ) where
         (omega (arith, less-room a k price la lk pos (b .edge), sumTo-upd-le n x 1 (upd a 0 t), sumTo-upd n a 0 t la)))
         (peak (λ j. c * w a j - price j) m)
 
-    step : Settled
+    step : SettledFully
     step =
         ⊎-elim
         (λ f. turn (f .0) (f .1) (f .2))
         (λ none. (matching, price, gain, s .matches, s .tight, all-settled s none))
         (find (λ i. 0 < t i) (λ i. decLt 0 (t i)) n)
 
-  run : (fuel : ℕ) (t matching price gain : ℕ → ℕ) → State t matching price gain → room price + sumTo n t ≤ fuel → Settled
+  run : (fuel : ℕ) (t matching price gain : ℕ → ℕ) → State t matching price gain → room price + sumTo n t ≤ fuel → SettledFully
   run zero t matching price gain s h = step t matching price gain s (λ t′ matching′ price′ gain′ s′ l. absurd (omega arith))
   run (suc f) t matching price gain s h = step t matching price gain s (λ t′ matching′ price′ gain′ s′ l. run f t′ matching′ price′ gain′ s′ (omega arith))
 
-  pub settlement : Settled
+  pub settlement : SettledFully
   settlement = run _ (λ i. 1) (λ i. 0) (λ k. 0) (λ i. 0) start (le-refl _)
     where
       start : State (λ i. 1) (λ i. 0) (λ k. 0) (λ i. 0)

@@ -68,6 +68,19 @@ sumTo-upd-le m k v f =
 pub sumTo-term : (n i : ℕ) (f : ℕ → ℕ) → i < n → f i ≤ sumTo n f
 sumTo-term n i f l = omega (arith, sumTo-upd n i 0 f l)
 
+-- A part of the sum, with the next term, is no more than the whole
+pub sumTo-part : (n : ℕ) (f : ℕ → ℕ) (i : ℕ) → i < n → sumTo i f + f i ≤ sumTo n f
+sumTo-part zero f i l = absurd (omega arith)
+sumTo-part (suc n) f i l =
+    by-cases (decLt i n)
+    (λ h. omega (arith, sumTo-part n f i h))
+    (λ h. let e : i ≡ n = omega arith in rw e (omega arith))
+
+-- A sum of n terms of at most c
+pub sumTo-most : (n c : ℕ) (f : ℕ → ℕ) → ((i : ℕ) → i < n → f i ≤ c) → sumTo n f ≤ n * c
+sumTo-most zero c f h = omega arith
+sumTo-most (suc n) c f h = omega (arith, sumTo-most n c f (λ i l. h i (omega arith)), h n (omega arith))
+
 -- Terms that do not fall, and one that rises
 pub sumTo-lt : (n j : ℕ) (f g : ℕ → ℕ) → ((i : ℕ) → i < n → f i ≤ g i) → j < n → f j < g j → sumTo n f < sumTo n g
 sumTo-lt n j f g h l s =

@@ -2,7 +2,7 @@
 use mathlib.Core.Path.{_≡_}
 use Prim.Native.Nat.{ℕ}
 use Rattle.duality.specs.Matching.{IsMatching, weightOf}
-use Rattle.duality.specs.Cover.{Covers, Tight, total}
+use Rattle.duality.specs.Cover.{Covers, total}
 
 -- A matching and a cover in whole numbers with equal totals
 pub record Equal (n m : ℕ) (w : ℕ → ℕ → ℕ) (matching price gain : ℕ → ℕ) : Type 0 where

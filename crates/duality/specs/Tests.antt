@@ -1,5 +1,5 @@
 -- The tests of a matching and of a cover.
-use mathlib.Core.Bool.{Bool, true, false, not, _&&_}
+use mathlib.Core.Bool.{Bool, true, not, _&&_}
 use Prim.Native.Nat.{ℕ, zero, suc, _+_, _*_}
 use lib.Dec.{eqb, ltb, leb}
 use Rattle.duality.specs.Decide.{allBelow}

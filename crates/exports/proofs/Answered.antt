@@ -2,10 +2,11 @@
 use mathlib.Core.Path.{_≡_, ap, _∙_}
 use mathlib.Core.List.{List}
 use Prim.Native.Nat.{ℕ}
-use Rattle.auction.specs.declared.calls.ReadOut.{ReadOut}
-use Rattle.auction.specs.Rule.{Outcome, done}
-use Rattle.auction.specs.Calls.{Lists, ReadOutcome}
-use Rattle.auction.specs.Calls as calls
+use Rattle.auction.specs.declared.read_out.ReadOut.{ReadOut}
+use Rattle.bidding.specs.Rule.{Outcome, done}
+use Rattle.board.specs.Lent.{Lists}
+use Rattle.auction.specs.ReadOut.{ReadOutcome}
+use Rattle.auction.specs.ReadOut as calls
 use Rattle.history.specs.declared.planning.Planned.{Planned}
 use Rattle.history.specs.Plan.{PlanOutcome}
 use Rattle.history.specs.Plan as plan
@@ -18,5 +19,5 @@ told-done f e t = ap done t ∙ ap (answered f) e
 pub told-lists : (a : ReadOut) (t : Told) (l : Lists) {o : ReadOutcome} → calls.outcome a l ≡ o → t ≡ readOutTold a → toldLists t l ≡ readOutAnswer o
 told-lists a t l e h = ap (λ x. toldLists x l) h ∙ ap readOutAnswer e
 
-pub told-bytes : (a : Planned) (t : Told) (out : List ℕ) {o : PlanOutcome} → plan.outcome a out ≡ o → t ≡ plannedTold a → toldBytes t out ≡ planAnswer o
+pub told-bytes : (a : Planned) (t : Told) (out : List ℕ) {o : PlanOutcome} → plan.planned a out ≡ o → t ≡ plannedTold a → toldBytes t out ≡ planAnswer o
 told-bytes a t out e h = ap (λ x. toldBytes x out) h ∙ ap planAnswer e

@@ -3,20 +3,21 @@
 use mathlib.Core.Path.{_≡_}
 use mathlib.Core.List.{List}
 use Prim.Native.Nat.{ℕ}
-use Rattle.auction.specs.declared.board.Auction.{Auction}
-use Rattle.auction.specs.declared.refusal.Refusal.{Refusal}
-use Rattle.auction.specs.declared.calls.Opened.{Opened}
-use Rattle.auction.specs.declared.calls.Opening.{Opening}
-use Rattle.auction.specs.declared.calls.Arrived.{Arrived}
-use Rattle.auction.specs.declared.calls.Arrival.{Arrival}
-use Rattle.auction.specs.declared.calls.Withdrawn.{Withdrawn}
-use Rattle.auction.specs.declared.calls.Withdrawal.{Withdrawal}
-use Rattle.auction.specs.declared.calls.ReadOut.{ReadOut}
-use Rattle.auction.specs.declared.replay.Ending.{Ending}
-use Rattle.auction.specs.declared.replay.Replayed.{Replayed}
-use Rattle.auction.specs.Rule.{Outcome, done, spent}
-use Rattle.auction.specs.Refusals.{codeOf}
-use Rattle.auction.specs.Calls.{Lists, ReadOutcome}
+use Rattle.board.specs.declared.record.Auction.{Auction}
+use Rattle.refusals.specs.declared.Refusal.{Refusal}
+use Rattle.board.specs.declared.opening.Opened.{Opened}
+use Rattle.board.specs.declared.opening.Opening.{Opening}
+use Rattle.auction.specs.declared.arrive.Arrived.{Arrived}
+use Rattle.auction.specs.declared.arrive.Arrival.{Arrival}
+use Rattle.auction.specs.declared.withdraw.Withdrawn.{Withdrawn}
+use Rattle.auction.specs.declared.withdraw.Withdrawal.{Withdrawal}
+use Rattle.auction.specs.declared.read_out.ReadOut.{ReadOut}
+use Rattle.replay.specs.declared.Ending.{Ending}
+use Rattle.replay.specs.declared.Replayed.{Replayed}
+use Rattle.bidding.specs.Rule.{Outcome, done, spent}
+use Rattle.refusals.specs.Codes.{codeOf}
+use Rattle.board.specs.Lent.{Lists}
+use Rattle.auction.specs.ReadOut.{ReadOutcome}
 use Rattle.hungarian.specs.declared.exact.Greatest.{Greatest}
 use Rattle.hungarian.specs.Demand3.{ExactOutcome}
 use Rattle.certificate.specs.declared.Checked.{Checked}

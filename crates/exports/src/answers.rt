@@ -1,22 +1,21 @@
 // What a call answers, in numbers: enums do not cross to another language. Each function here is one call's answer, told so.
-use auction::board::Auction;
-use auction::calls::Arrival;
-use auction::calls::Arrived;
-use auction::calls::Opened;
-use auction::calls::Opening;
-use auction::calls::ReadOut;
-use auction::calls::Withdrawal;
-use auction::calls::Withdrawn;
-use auction::refusal::Refusal;
-use auction::replay::Ending;
-use auction::replay::Replayed;
+use auction::arrive::Arrival;
+use auction::arrive::Arrived;
+use auction::read_out::ReadOut;
+use auction::withdraw::Withdrawal;
+use auction::withdraw::Withdrawn;
+use board::opening::Opened;
+use board::opening::Opening;
+use board::record::Auction;
 use certificate::Checked;
 use history::planning::Planned;
-use history::planning::number_of;
 use hungarian::exact::Greatest;
+use refusals::Refusal;
+use replay::Ending;
+use replay::Replayed;
 ghost use mathlib.Core.Path.{_≡_};
-ghost use Rattle.auction.specs.Refusals.{codeOf};
-ghost use Rattle.exports.specs.Answers.{served, refused, stoppedAt, withBoard, openedTold, openAnswer, arrivedTold, arrivalAnswer, withdrawnTold, withdrawalAnswer, readOutTold, exactTold, totalsOf, endingTold, replayAnswer, plannedTold};
+ghost use Rattle.exports.specs.Answers.{served, refused, stoppedAt, withBoard, openedTold, openAnswer, arrivedTold, arrivalAnswer, withdrawnTold, withdrawalAnswer};
+ghost use Rattle.exports.specs.Answers.{readOutTold, exactTold, totalsOf, endingTold, replayAnswer, plannedTold};
 
 // A call's answer. Number 0 says that the call served, with a value where it has one. Any other number is the refusal's, with its place.
 #[repr(C)]
@@ -44,29 +43,6 @@ pub struct Totals {
     pub total: u64,
 }
 
-// The place of a refusal, 0 where it has none.
-fn place_of(refusal: Refusal) -> u64
-    ensures { λ r. ⌜ r ≡ codeOf refusal .place ⌝ }
-{
-    match refusal {
-        Refusal::Count => 0,
-        Refusal::Slack => 0,
-        Refusal::Full => 0,
-        Refusal::Unknown(place) => place,
-        Refusal::Gone(place) => place,
-        Refusal::Worth(place) => place,
-        Refusal::Order(place) => place,
-        Refusal::Short => 0,
-        Refusal::Uneven => 0,
-        Refusal::Clash(place) => place,
-        Refusal::Price(place) => place,
-        Refusal::Bare(place) => place,
-        Refusal::Spoilt => 0,
-        Refusal::Line(place) => place,
-        Refusal::Long => 0,
-    }
-}
-
 // The call served.
 fn serving(value: u64) -> Told
     ensures { λ r. ⌜ r ≡ served value ⌝ }
@@ -83,7 +59,7 @@ fn stopping(refusal: Refusal, line: u64, value: u64) -> Told
     ensures { λ r. ⌜ r ≡ stoppedAt refusal line value ⌝ }
 {
     Told {
-        number: number_of(refusal),
+        number: refusal.number(),
         place: line,
         value,
     }
@@ -93,7 +69,7 @@ fn stopping(refusal: Refusal, line: u64, value: u64) -> Told
 fn refusing(refusal: Refusal) -> Told
     ensures { λ r. ⌜ r ≡ refused refusal ⌝ }
 {
-    stopping(refusal, place_of(refusal), 0)
+    stopping(refusal, refusal.place(), 0)
 }
 
 // What is told, beside a board.

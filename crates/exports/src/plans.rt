@@ -3,11 +3,11 @@ use crate::answers::Told;
 use crate::answers::Totals;
 use crate::answers::exact_told;
 use crate::answers::totals_of;
-use auction::board::Auction;
+use board::record::Auction;
 use certificate::check;
 use hungarian::exact::exact;
 ghost use mathlib.Core.Path.{_≡_};
-ghost use Rattle.auction.specs.Calls.{lists};
+ghost use Rattle.board.specs.Lent.{lists};
 ghost use Rattle.certificate.specs.Check.{checkOf};
 ghost use Rattle.exports.specs.Answers.{ExactAnswer, totalsOf};
 

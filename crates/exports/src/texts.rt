@@ -3,19 +3,16 @@ use crate::answers::Answer;
 use crate::answers::Told;
 use crate::answers::planned_told;
 use crate::answers::replay_answer;
-use auction::replay::replay;
 use history::planning::MAX_OUTPUT;
 use history::planning::plan_text;
 use history::planning::refusal_line;
 use history::planning::sheet_text;
+use replay::replay;
 ghost use mathlib.Core.Path.{_≡_};
-ghost use mathlib.Core.List.{_++_};
-ghost use Prim.Native.Nat.{_≤_};
-ghost use lib.ListN.{length, take, drop};
-ghost use Rattle.auction.specs.Rule.{done};
-ghost use Rattle.auction.specs.Replay.{replayOf};
+ghost use Rattle.bidding.specs.Rule.{done};
+ghost use Rattle.replay.specs.Replay.{replayOf};
 ghost use Rattle.history.specs.Output.{refusalLine};
-ghost use Rattle.history.specs.Plan.{fitted, planOf, sheetOf};
+ghost use Rattle.history.specs.Plan.{fitted, planOf, SheetWritten};
 ghost use Rattle.exports.specs.Answers.{answered, replayAnswer, toldBytes, planAnswer};
 
 // Replays a text. The value is the number of bids in all, up to the refusal where there is one.
@@ -48,7 +45,7 @@ pub extern "C" fn noughtelm_refusal_line(number: u64, line: u64, out: &mut [u8])
 // Writes what the program prints, and answers how many bytes that is; further cells are as they were.
 #[no_mangle]
 pub extern "C" fn noughtelm_sheet_text(text: &[u8], out: &mut [u8; MAX_OUTPUT]) -> usize
-    ensures { λ r. ⌜ (r ≤ length (now (out .exit))) × (r ≡ length (take r (now (out .exit)))) × (take r (now (out .exit)) ≡ sheetOf (now (text .entry))) × (now (out .exit) ≡ sheetOf (now (text .entry)) ++ drop r (now (out .entry))) ⌝ }
+    ensures { λ r. ⌜ SheetWritten (now (text .entry)) (now (out .entry)) (now (out .exit)) r ⌝ }
 {
     sheet_text(text, out)
 }

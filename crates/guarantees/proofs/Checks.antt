@@ -1,41 +1,32 @@
 -- What the check says of the lists that the exact level and the read-out leave.
-use mathlib.Core.Path.{_≡_, refl, sym, ap, ap₂, _∙_}
-use mathlib.Core.Logic.{_↔_}
-use mathlib.Core.Bool.{true}
-use mathlib.Core.List.{List}
+use mathlib.Core.Path.{_≡_, sym, ap, ap₂, _∙_}
 use Prim.Native.Nat.{ℕ, _+_, _-_, _*_, _≤_, _<_}
 use native.Mathlib.Nat.{le-trans}
 use native.Mathlib.Omega.{arith}
-use lib.ListN.{length, take}
+use lib.ListN.{take}
 use lib.Seq.{length-take-le}
 use Rattle.duality.specs.Lists.{cells, sum}
 use Rattle.duality.specs.Matching.{weightOf}
-use Rattle.duality.specs.Cover.{Covers, Tight, total}
-use Rattle.duality.specs.EqualExactlyWhenBest.{BestLists}
+use Rattle.duality.specs.Cover.{Tight, total}
 use Rattle.duality.proofs.Agree.{weight-as, total-as, matching-as, covers-as}
 use Rattle.duality.proofs.ComplementarySlackness.{complementary-slackness}
 use Rattle.duality.proofs.EqualExactlyWhenBest.{total-lists}
-use Rattle.auction.specs.declared.board.Auction.{Auction}
-use Rattle.auction.specs.declared.board.Pence.{Pence}
-use Rattle.auction.specs.declared.board.Scaled.{Scaled}
-use Rattle.auction.specs.declared.calls.ReadOut.{ReadOut}
-use Rattle.auction.specs.Limits.{maxWeight, maxPrice}
-use Rattle.auction.specs.Cells.{pence, scaled, priceAt, gainAt}
-use Rattle.auction.specs.Live.{live, matchingOf}
-use Rattle.auction.specs.Sound.{Sound}
-use Rattle.auction.specs.Calls.{Lists, lists, Roomy, readOutOf}
+use Rattle.board.specs.Limits.{maxWeight}
+use Rattle.board.specs.Cells.{pence, scaled, priceAt, gainAt}
+use Rattle.board.specs.Live.{live, matchingOf}
+use Rattle.board.specs.Sound.{Sound}
+use Rattle.board.specs.Lent.{Lists, lists}
+use Rattle.auction.specs.ReadOut.{readOutOf}
 use Rattle.auction.specs.Demand2.{Reads}
 use Rattle.auction.proofs.CallVerdicts.{read-out-written}
-use Rattle.auction.proofs.SoundLaw.{sound-decides}
-use Rattle.auction.proofs.Demand1.{roomy-decides}
+use Rattle.board.proofs.SoundLaw.{sound-decides}
+use Rattle.board.proofs.Lending.{lent-served, roomy-decides}
 use Rattle.auction.proofs.ReadOuts.{read-out-demand-2}
 use Rattle.auction.proofs.Histories.{history-demand-2}
-use Rattle.hungarian.specs.Exact.{greatestOn, Shows}
+use Rattle.hungarian.specs.Exact.{Shows}
 use Rattle.hungarian.specs.Demand3.{ShowsBest}
 use Rattle.hungarian.proofs.Exacts.{best-on, exact-is-best}
 use Rattle.certificate.specs.declared.Checked.{Checked}
-use Rattle.certificate.specs.Check.{Even, checkOf}
-use Rattle.certificate.specs.Accepted.{Accepted}
 use Rattle.certificate.proofs.Accepted.{totals-accepted, accepted-totals}
 use Rattle.guarantees.specs.Checks.{cut, ExactAccepted, EqualTotalsBest, ReadOutAccepted}
 use Rattle.guarantees.proofs.Modest.{Modest, live-light, reached-modest}
@@ -51,9 +42,9 @@ exact-accepted b before after answer s room o =
       sound = s;
       slack = record { low = omega arith; below = omega arith; high = omega arith };
       even = record {
-        plan = length-take-le (b .arrived) (after .plan) (omega (arith, shown .plan .size, room .plan));
-        prices = length-take-le (b .items) (after .prices) (omega (arith, shown .prices .size, room .prices));
-        gains = length-take-le (b .arrived) (after .gains) (omega (arith, shown .gains .size, room .gains));
+        plan = length-take-le (b .market .arrived) (after .plan) (omega (arith, shown .plan .size, room .plan));
+        prices = length-take-le (b .market .items) (after .prices) (omega (arith, shown .prices .size, room .prices));
+        gains = length-take-le (b .market .arrived) (after .gains) (omega (arith, shown .gains .size, room .gains));
       };
       matches = matching-as plan (shown .equal .matches);
       prices = λ k l. le-trans (same-below (prices k l) (price-below tight maxWeight (live-light b s) k l)) (omega arith);
@@ -69,17 +60,17 @@ exact-accepted b before after answer s room o =
     best : ShowsBest b after
     best = exact-is-best b before after answer shown
 
-    tight : Tight (b .arrived) (b .items) (live b) 1 (cells (after .plan)) (cells (after .prices)) (cells (after .gains))
-    tight = complementary-slackness (b .arrived) (b .items) (live b) (cells (after .plan)) (cells (after .prices)) (cells (after .gains)) (shown .equal)
+    tight : Tight (b .market .arrived) (b .market .items) (live b) 1 (cells (after .plan)) (cells (after .prices)) (cells (after .gains))
+    tight = complementary-slackness (b .market .arrived) (b .market .items) (live b) (cells (after .plan)) (cells (after .prices)) (cells (after .gains)) (shown .equal)
 
-    plan : (i : ℕ) → i < b .arrived → cells (take (b .arrived) (after .plan)) i ≡ cells (after .plan) i
-    plan i l = cut-cell (b .arrived) (after .plan) i l
+    plan : (i : ℕ) → i < b .market .arrived → cells (take (b .market .arrived) (after .plan)) i ≡ cells (after .plan) i
+    plan i l = cut-cell (b .market .arrived) (after .plan) i l
 
-    prices : (k : ℕ) → k < b .items → cells (take (b .items) (after .prices)) k ≡ cells (after .prices) k
-    prices k l = cut-cell (b .items) (after .prices) k l
+    prices : (k : ℕ) → k < b .market .items → cells (take (b .market .items) (after .prices)) k ≡ cells (after .prices) k
+    prices k l = cut-cell (b .market .items) (after .prices) k l
 
-    gains : (i : ℕ) → i < b .arrived → cells (take (b .arrived) (after .gains)) i ≡ cells (after .gains) i
-    gains i l = cut-cell (b .arrived) (after .gains) i l
+    gains : (i : ℕ) → i < b .market .arrived → cells (take (b .market .arrived) (after .gains)) i ≡ cells (after .gains) i
+    gains i l = cut-cell (b .market .arrived) (after .gains) i l
 
     same-below : {x y m : ℕ} → x ≡ y → y ≤ m → x ≤ m
     same-below e l = omega arith
@@ -88,33 +79,34 @@ pub equal-totals-best : EqualTotalsBest
 equal-totals-best b l weight sum′ e =
     let a = totals-accepted b l 0 1 weight sum′ e in
     let t = accepted-totals b l 0 1 a in
-    let same : Checked.Totals weight sum′ ≡ Checked.Totals (pence (weightOf (b .arrived) (live b) (cells (l .plan)))) (scaled (total (b .arrived) (b .items) (cells (l .prices)) (cells (l .gains)))) = sym e ∙ t in
-    let w : weight ≡ pence (weightOf (b .arrived) (live b) (cells (l .plan))) = cc in
-    let s : sum′ ≡ scaled (total (b .arrived) (b .items) (cells (l .prices)) (cells (l .gains))) = cc in
-    let x = total-lists (b .arrived) (b .items) (l .prices) (l .gains) (a .even .prices) (a .even .gains) in
+    let same : Checked.Totals weight sum′ ≡
+    Checked.Totals (pence (weightOf (b .market .arrived) (live b) (cells (l .plan)))) (scaled (total (b .market .arrived) (b .market .items) (cells (l .prices)) (cells (l .gains)))) = sym e ∙ t in
+    let w : weight ≡ pence (weightOf (b .market .arrived) (live b) (cells (l .plan))) = cc in
+    let s : sum′ ≡ scaled (total (b .market .arrived) (b .market .items) (cells (l .prices)) (cells (l .gains))) = cc in
+    let x = total-lists (b .market .arrived) (b .market .items) (l .prices) (l .gains) (a .even .prices) (a .even .gains) in
     let best = best-on b (a .sound) (l .plan) (l .prices) (l .gains) (a .even .plan) (a .even .prices) (a .even .gains) (a .matches) (a .covers) in
     (λ h. best .0 (sym (ap (λ p. p .0) w) ∙ h ∙ ap (λ p. p .0) s ∙ x), λ h. ap (λ p. p .0) w ∙ best .1 h ∙ sym x ∙ sym (ap (λ p. p .0) s))
 
 pub read-out-accepted : ReadOutAccepted
 read-out-accepted b e n l t room =
-    accepted-totals b (cut b after) (b .slack .p) (b .slack .q)
+    accepted-totals b (cut b after) (b .market .slack .p) (b .market .slack .q)
     (record {
       sound = s;
       slack = record { low = omega arith; below = s .slack .below; high = s .slack .high };
       even = record {
-        plan = length-take-le (b .arrived) (after .plan) (omega (arith, reads .plan-length, room .plan));
-        prices = length-take-le (b .items) (after .prices) (omega (arith, reads .prices-length, room .prices));
-        gains = length-take-le (b .arrived) (after .gains) (omega (arith, reads .gains-length, room .gains));
+        plan = length-take-le (b .market .arrived) (after .plan) (omega (arith, reads .plan-length, room .plan));
+        prices = length-take-le (b .market .items) (after .prices) (omega (arith, reads .prices-length, room .prices));
+        gains = length-take-le (b .market .arrived) (after .gains) (omega (arith, reads .gains-length, room .gains));
       };
       matches = matching-as plan (s .matches);
       prices = λ k h. omega (arith, prices k h, m .prices k);
       withdrawn = λ k h gone. prices k h ∙ s .withdrawn k h gone;
       gains = λ i h. omega (arith, gains i h, m .gains i);
-      covers = covers-as _ _ (live b) (b .slack .q - b .slack .p) (priceAt b) _ (gainAt b) _ prices gains (s .covers);
+      covers = covers-as _ _ (live b) (b .market .slack .q - b .market .slack .p) (priceAt b) _ (gainAt b) _ prices gains (s .covers);
     })
     ∙ totals _ _ _ _ (weight-as _ (live b) (matchingOf b) _ plan)
-    (total-as _ _ (cells (after .prices)) _ (cells (after .gains)) _ (λ k h. cut-cell (b .items) (after .prices) k h) (λ i h. cut-cell (b .arrived) (after .gains) i h)
-    ∙ reads .sum ∙ ap (λ x. (b .slack .q + b .slack .p) * x) (weight-as _ (live b) (matchingOf b) _ (λ i h. reads .plan i h)))
+    (total-as _ _ (cells (after .prices)) _ (cells (after .gains)) _ (λ k h. cut-cell (b .market .items) (after .prices) k h) (λ i h. cut-cell (b .market .arrived) (after .gains) i h)
+    ∙ reads .sum ∙ ap (λ x. (b .market .slack .q + b .market .slack .p) * x) (weight-as _ (live b) (matchingOf b) _ (λ i h. reads .plan i h)))
   where
     s : Sound b
     s = history-demand-2 b e n t .sound
@@ -126,13 +118,13 @@ read-out-accepted b e n l t room =
     after = readOutOf b l .lists
 
     reads : Reads b l (readOutOf b l .lists)
-    reads = read-out-demand-2 b l (ap (λ o. o .answer) (read-out-written b l (sound-decides b .complete s) (roomy-decides b l .complete room)))
+    reads = read-out-demand-2 b l (ap (λ o. o .answer) (read-out-written b l (sym (lent-served b _ _ _ (sound-decides b .complete s) (roomy-decides b l .complete room)))))
 
-    plan : (i : ℕ) → i < b .arrived → cells (take (b .arrived) (after .plan)) i ≡ matchingOf b i
-    plan i h = cut-cell (b .arrived) (after .plan) i h ∙ reads .plan i h
+    plan : (i : ℕ) → i < b .market .arrived → cells (take (b .market .arrived) (after .plan)) i ≡ matchingOf b i
+    plan i h = cut-cell (b .market .arrived) (after .plan) i h ∙ reads .plan i h
 
-    prices : (k : ℕ) → k < b .items → cells (take (b .items) (after .prices)) k ≡ priceAt b k
-    prices k h = cut-cell (b .items) (after .prices) k h ∙ reads .prices k h
+    prices : (k : ℕ) → k < b .market .items → cells (take (b .market .items) (after .prices)) k ≡ priceAt b k
+    prices k h = cut-cell (b .market .items) (after .prices) k h ∙ reads .prices k h
 
-    gains : (i : ℕ) → i < b .arrived → cells (take (b .arrived) (after .gains)) i ≡ gainAt b i
-    gains i h = cut-cell (b .arrived) (after .gains) i h ∙ reads .gains i h
+    gains : (i : ℕ) → i < b .market .arrived → cells (take (b .market .arrived) (after .gains)) i ≡ gainAt b i
+    gains i h = cut-cell (b .market .arrived) (after .gains) i h ∙ reads .gains i h

@@ -1,11 +1,10 @@
 -- The page, by citing the crates below.
-use mathlib.Core.Path.{_≡_}
-use Rattle.auction.proofs.Verdicts.{codes-apart}
+use Rattle.refusals.proofs.Verdicts.{codes-apart}
 use Rattle.auction.proofs.Demand1.{open-demand-1, arrive-demand-1, withdraw-demand-1, read-out-demand-1}
 use Rattle.auction.proofs.Demand2.{arrive-ends, withdraw-ends, arrive-demand-2, withdraw-demand-2, sound-demand-2}
 use Rattle.auction.proofs.ReadOuts.{read-out-demand-2}
 use Rattle.auction.proofs.Histories.{history-demand-2}
-use Rattle.auction.proofs.ReplayLaws.{replay-ends, replay-reached}
+use Rattle.replay.proofs.ReplayLaws.{replay-ends, replay-reached}
 use Rattle.hungarian.proofs.Exacts.{best-on, exact-is-best, exact-demand-1}
 use Rattle.certificate.proofs.Demand1.{check-demand-1}
 use Rattle.guarantees.specs.Guarantees.{TableFirst, QuickBids, EqualPairs, Guarantees}
@@ -35,8 +34,6 @@ demand-2 =
       reads = read-out-demand-2;
       histories = history-demand-2;
       texts = replay-reached;
-      busy-after-arrival = λ b c edges n e. sound-demand-2 c (arrive-demand-2 b c edges n e .after) .busy;
-      busy-after-withdrawal = λ b c item n e. sound-demand-2 c (withdraw-demand-2 b c item n e .after) .busy;
       accepted = read-out-accepted;
     }
 

@@ -1,26 +1,27 @@
 -- On every board that a history reaches, no price and no gain is above 1,000,000,000: a bid leaves both at most q times a weight.
-use mathlib.Core.Path.{_≡_, refl, sym, ap, _∙_}
+use mathlib.Core.Path.{_≡_, refl}
 use mathlib.Core.Bool.{Bool, true, false, cond}
 use mathlib.Core.List.{List, [], _∷_}
 use mathlib.Core.Logic.{by-cases}
 use Prim.Native.Nat.{ℕ, zero, suc, _+_, _*_, _≤_, _<_}
 use native.Mathlib.Decide.{decLt}
-use native.Mathlib.Nat.{mul-le-mul, le-trans}
+use native.Mathlib.Nat.{mul-le-mul}
 use native.Mathlib.Omega.{arith}
-use lib.ListN.{length, getD, set, take, drop, replicate, length-take, List·getD-eq-default}
-use Rattle.duality.specs.Steps.{utility, Open}
-use Rattle.auction.specs.declared.board.Auction.{Auction}
-use Rattle.auction.specs.declared.board.Scaled.{Scaled}
-use Rattle.auction.specs.Limits.{maxItems, maxBidders, maxWeight, maxQ, maxPrice}
-use Rattle.auction.specs.Cells.{scaled, scaledAt, priceAt, gainAt, rowAt, rowIn}
-use Rattle.auction.specs.Live.{live}
-use Rattle.auction.specs.Sound.{Sound}
-use Rattle.auction.specs.Rule.{Chosen, placedAt, bidden, displaced, Chain, stays, takes, displaces}
-use Rattle.auction.specs.Calls.{opened, entered, released}
+use lib.ListN.{getD, set, drop, replicate, length-take, List·getD-eq-default}
+use Rattle.duality.specs.Steps.{Open}
+use Rattle.board.specs.declared.record.Auction.{Auction}
+use Rattle.board.specs.declared.units.Scaled.{Scaled}
+use Rattle.board.specs.Limits.{maxItems, maxBidders, maxWeight, maxQ, maxPrice}
+use Rattle.board.specs.Cells.{scaled, scaledAt, priceAt, gainAt, rowAt}
+use Rattle.board.specs.Live.{live}
+use Rattle.board.specs.Sound.{Sound}
+use Rattle.bidding.specs.Rule.{placedAt, bidden, displaced, Chain, stays, takes, displaces}
+use Rattle.board.specs.Opening.{opened}
+use Rattle.bidding.specs.Moves.{entered, released}
 use Rattle.auction.specs.Demand2.{Leaves, free, held}
 use Rattle.auction.specs.Histories.{Reached, opens, arrives, withdraws}
-use Rattle.auction.proofs.Filed.{row-cell}
-use Rattle.auction.proofs.LiveLaws.{weighed-edges}
+use Rattle.board.proofs.Filed.{row-cell}
+use Rattle.board.proofs.LiveLaws.{weighed-edges}
 use Rattle.auction.proofs.Demand2.{rowOf, arrive-all, withdraw-all}
 
 pub record Modest (b : Auction) : Type 0 where
@@ -29,7 +30,7 @@ pub record Modest (b : Auction) : Type 0 where
 
 -- The limits that a bid goes by
 pub record Light (b : Auction) : Type 0 where
-  pub q : b .slack .q ≤ maxQ
+  pub q : b .market .slack .q ≤ maxQ
   pub weights : (i k : ℕ) → live b i k ≤ maxWeight
 
 cond-below : (f : Bool) (x y : ℕ) → x ≤ y → cond f 0 x ≤ y
@@ -37,14 +38,14 @@ cond-below true x y l = omega arith
 cond-below false x y l = l
 
 pub live-light : (b : Auction) → Sound b → (i k : ℕ) → live b i k ≤ maxWeight
-live-light b s i k = cond-below (getD (b .withdrawn) k false) _ _ (by-cases (decLt k maxItems) near far)
+live-light b s i k = cond-below (getD (b .market .withdrawn) k false) _ _ (by-cases (decLt k maxItems) near far)
   where
     near : k < maxItems → getD (rowAt b i) k 0 ≤ maxWeight
     near lk =
         by-cases (decLt i maxBidders)
-        (λ li. by-cases (decLt i (b .arrived))
-        (λ a. by-cases (decLt k (b .items))
-        (λ u. weighed-edges (rowAt b i) (b .items) (s .weights i a) k u)
+        (λ li. by-cases (decLt i (b .market .arrived))
+        (λ a. by-cases (decLt k (b .market .items))
+        (λ u. weighed-edges (rowAt b i) (b .market .items) (s .weights i a) k u)
         (λ f. omega (arith, s .unused .weight i k a (omega arith) lk)))
         (λ f. omega (arith, s .unused .row i k (omega arith) li lk)))
         (λ f. omega (arith, row-cell (b .weights) i k lk, List·getD-eq-default (b .weights) 0 {n = i * maxItems + k} (omega (arith, s .formed .rows))))
@@ -67,18 +68,18 @@ set-below (y ∷ ys) (suc k) v h l (suc j) = set-below ys k v (λ j. h (suc j)) 
 below : (q w : ℕ) → q ≤ maxQ → w ≤ maxWeight → q * w ≤ maxPrice
 below q w lq lw = let l : q * w ≤ maxQ * maxWeight = mul-le-mul lq lw in omega arith
 
-bid-modest : {b : Auction} (i k : ℕ) → Light b → Modest b → Open (b .slack .p) (b .slack .q) (live b i k) (priceAt b k) → Modest (bidden b i k)
+bid-modest : {b : Auction} (i k : ℕ) → Light b → Modest b → Open (b .market .slack .p) (b .market .slack .q) (live b i k) (priceAt b k) → Modest (bidden b i k)
 unfolding placedAt
 bid-modest {b} i k light m o =
-    let l = below (b .slack .q) (live b i k) (light .q) (light .weights i k) in
+    let l = below (b .market .slack .q) (live b i k) (light .q) (light .weights i k) in
     record {
-      prices = set-below (b .price) k _ (m .prices) (omega (arith, o, l));
-      gains = set-below (b .gain) i _ (m .gains) (omega (arith, l));
+      prices = set-below (b .state .price) k _ (m .prices) (omega (arith, o, l));
+      gains = set-below (b .state .gain) i _ (m .gains) (omega (arith, l));
     }
 
 displaced-modest : {b : Auction} (x : ℕ) → Modest b → Modest (displaced b x)
 unfolding displaced
-displaced-modest {b} x m = record { prices = m .prices; gains = set-below (b .gain) x 0 (m .gains) (omega arith) }
+displaced-modest {b} x m = record { prices = m .prices; gains = set-below (b .state .gain) x 0 (m .gains) (omega arith) }
 
 bid-light : {b : Auction} (i k x : ℕ) → Light b → Light (displaced (bidden b i k) x)
 unfolding placedAt displaced
@@ -98,10 +99,10 @@ chain-light (displaces ch h r) l = let m = chain-light r l in record { q = m .q;
 
 leaves-modest : {b c : Auction} {k n : ℕ} → Leaves b k c n → Sound c → Modest b → Modest c
 unfolding released displaced
-leaves-modest {b} {k = k} (free e) s m = record { prices = set-below (b .price) k 0 (m .prices) (omega arith); gains = m .gains }
+leaves-modest {b} {k = k} (free e) s m = record { prices = set-below (b .state .price) k 0 (m .prices) (omega arith); gains = m .gains }
 leaves-modest {b} {k = k} (held {x = x} e r) s m =
     chain-modest r (chain-light r (sound-light s))
-    (record { prices = set-below (b .price) k 0 (m .prices) (omega arith); gains = set-below (b .gain) x 0 (m .gains) (omega arith) })
+    (record { prices = set-below (b .state .price) k 0 (m .prices) (omega arith); gains = set-below (b .state .gain) x 0 (m .gains) (omega arith) })
 
 entered-modest : {b : Auction} (row : List ℕ) → Modest b → Modest (entered b row)
 unfolding entered

@@ -3,15 +3,15 @@ use mathlib.Core.Path.{_≡_}
 use mathlib.Core.Logic.{_↔_}
 use Prim.Native.Nat.{ℕ, _+_, _*_}
 use lib.ListN.{take}
-use Rattle.duality.specs.Matching.{weightOf}
 use Rattle.duality.specs.EqualExactlyWhenBest.{BestLists}
-use Rattle.auction.specs.declared.board.Auction.{Auction}
-use Rattle.auction.specs.declared.board.Pence.{Pence}
-use Rattle.auction.specs.declared.board.Scaled.{Scaled}
-use Rattle.auction.specs.Cells.{pence, scaled}
-use Rattle.auction.specs.Live.{live, matchingOf}
-use Rattle.auction.specs.Sound.{Sound}
-use Rattle.auction.specs.Calls.{Lists, lists, Roomy, readOutOf}
+use Rattle.board.specs.declared.record.Auction.{Auction}
+use Rattle.board.specs.declared.units.Pence.{Pence}
+use Rattle.board.specs.declared.units.Scaled.{Scaled}
+use Rattle.board.specs.Cells.{pence, scaled}
+use Rattle.board.specs.Live.{live, matchingWeight}
+use Rattle.board.specs.Sound.{Sound}
+use Rattle.board.specs.Lent.{Lists, lists, Roomy}
+use Rattle.auction.specs.ReadOut.{readOutOf}
 use Rattle.auction.specs.Histories.{Reached}
 use Rattle.hungarian.specs.declared.exact.Greatest.{Greatest}
 use Rattle.hungarian.specs.Exact.{greatestOn}
@@ -21,7 +21,7 @@ use Rattle.certificate.specs.Check.{checkOf}
 
 -- Three lists cut to length: a cell for each bidder, item and bidder
 abbrev pub cut : Auction → Lists → Lists
-cut b l = lists (take (b .arrived) (l .plan)) (take (b .items) (l .prices)) (take (b .arrived) (l .gains))
+cut b l = lists (take (b .market .arrived) (l .plan)) (take (b .market .items) (l .prices)) (take (b .market .arrived) (l .gains))
 
 -- "With 0/1 that is the whole-penny case": what the exact level leaves is accepted, and both totals are its answer
 abbrev pub ExactAccepted : Type 0
@@ -34,12 +34,11 @@ ExactAccepted =
 abbrev pub EqualTotalsBest : Type 0
 EqualTotalsBest =
     (b : Auction) (l : Lists) (weight : Pence) (sum : Scaled) → checkOf b l 0 1 ≡ Checked.Totals weight sum →
-    (weight .0 ≡ sum .0) ↔ BestLists (b .arrived) (b .items) (live b) (l .plan) (l .prices) (l .gains)
+    (weight .0 ≡ sum .0) ↔ BestLists (b .market .arrived) (b .market .items) (live b) (l .plan) (l .prices) (l .gains)
 
 -- On a board that a history reaches, the lists read out are accepted at its own slack, and the totals are as 1 to q + p
 abbrev pub ReadOutAccepted : Type 0
 ReadOutAccepted =
     (b : Auction) (e n : ℕ) (l : Lists) → Reached b e n → Roomy b l →
-    checkOf b (cut b (readOutOf b l .lists)) (b .slack .p) (b .slack .q) ≡
-    Checked.Totals (pence (weightOf (b .arrived) (live b) (matchingOf b)))
-    (scaled ((b .slack .q + b .slack .p) * weightOf (b .arrived) (live b) (matchingOf b)))
+    checkOf b (cut b (readOutOf b l .lists)) (b .market .slack .p) (b .market .slack .q) ≡
+    Checked.Totals (pence (matchingWeight b)) (scaled ((b .market .slack .q + b .market .slack .p) * matchingWeight b))

@@ -1,17 +1,16 @@
 -- The three demands, over what the calls mean. Each field is the sentence above it; the definitions that it names say the rest.
 use mathlib.Core.Path.{_≡_}
-use Rattle.auction.specs.declared.board.Auction.{Auction}
-use Rattle.auction.specs.Sound.{Sound}
-use Rattle.auction.specs.Calls.{Lists}
-use Rattle.auction.specs.Refusals.{CodesApart}
+use Rattle.board.specs.declared.record.Auction.{Auction}
+use Rattle.board.specs.Sound.{Sound}
+use Rattle.board.specs.Lent.{Lists}
+use Rattle.refusals.specs.Codes.{CodesApart}
 use Rattle.auction.specs.Demand1.{OpenDemand1, ArriveDemand1, WithdrawDemand1, ReadOutDemand1}
 use Rattle.auction.specs.Demand2.{ArriveEnds, WithdrawEnds, ArriveDemand2, WithdrawDemand2, SoundDemand2, ReadOutDemand2}
 use Rattle.auction.specs.Histories.{HistoryDemand2}
-use Rattle.auction.specs.ReplayLaws.{ReplayEnds, ReplayReached}
+use Rattle.replay.specs.ReplayLaws.{ReplayEnds, ReplayReached}
 use Rattle.hungarian.specs.declared.exact.Greatest.{Greatest}
 use Rattle.hungarian.specs.Demand3.{Demand3, EqualExactlyWhenBestOn, ExactOutcome, ExactDemand1, ExactIsBest}
 use Rattle.certificate.specs.Demand1.{CheckDemand1}
-use Rattle.guarantees.specs.Busy.{BusyAfterArrival, BusyAfterWithdrawal}
 use Rattle.guarantees.specs.Checks.{ExactAccepted, EqualTotalsBest, ReadOutAccepted}
 
 -- Demand 1
@@ -35,15 +34,13 @@ pub record QuickBids : Type 0 where
   -- "exactly the bids of the rule, the plan, prices and gains they give, their number returned"; and the board after is sound
   pub arrives : ArriveDemand2
   pub withdraws : WithdrawDemand2
-  -- "Prices plus gains = (q + p) × worth; worth × (q + p) ≥ (q - p) × any plan's worth", on every sound board, and of the lists that are read out
+  -- "Prices plus gains = (q + p) × worth; worth × (q + p) ≥ (q - p) × any plan's worth", on every sound board, and of the lists that are read out;
+  -- and "I hold the dearest unplaced batch against each free kettle", so after every accepted arrival and withdrawal
   pub sound : SoundDemand2
   pub reads : ReadOutDemand2
   -- "Bids over a history ≤ entries ever accepted × ⌊(q - 1)/p⌋"; and a text's lines are such a history
   pub histories : HistoryDemand2
   pub texts : ReplayReached
-  -- "I hold the dearest unplaced batch against each free kettle"
-  pub busy-after-arrival : BusyAfterArrival
-  pub busy-after-withdrawal : BusyAfterWithdrawal
   -- The check accepts what is read out
   pub accepted : ReadOutAccepted
 

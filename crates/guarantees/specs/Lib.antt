@@ -1,4 +1,3 @@
--- What is promised. Guarantees is the page to read first; the files before it are the laws that it names.
-pub mod Busy
+-- What is promised. Guarantees is the page to read first; Checks has laws that it names.
 pub mod Checks
 pub mod Guarantees

@@ -11,18 +11,18 @@ use Rattle.text.specs.Print.{lineOf}
 use Rattle.text.proofs.Decimals.{most}
 use Rattle.duality.proofs.Sums.{sumTo-term}
 use Rattle.duality.proofs.GreatestWeight.{greatest-weight}
-use Rattle.auction.specs.declared.board.Auction.{Auction}
-use Rattle.auction.specs.Limits.{maxItems, maxBidders, maxWeight}
-use Rattle.auction.specs.Cells.{priceAt, gainAt, withdrawnAt}
-use Rattle.auction.specs.Live.{live, matchingOf}
-use Rattle.auction.specs.Sound.{Sound}
+use Rattle.board.specs.declared.record.Auction.{Auction}
+use Rattle.board.specs.Limits.{maxItems, maxBidders, maxWeight}
+use Rattle.board.specs.Cells.{priceAt, gainAt, withdrawnAt}
+use Rattle.board.specs.Live.{live, matchingOf, matchingWeight}
+use Rattle.board.specs.Sound.{Sound}
 use Rattle.auction.proofs.Demand2.{sound-demand-2}
 use Rattle.auction.proofs.Histories.{history-demand-2}
-use Rattle.auction.proofs.ReplayLines.{bids-fit}
-use Rattle.auction.proofs.ReplayLaws.{replay-ends, replay-reached}
+use Rattle.replay.proofs.ReplayLines.{bids-fit}
+use Rattle.replay.proofs.ReplayLaws.{replay-ends, replay-reached}
 use Rattle.hungarian.specs.Exact.{greatestOn}
 use Rattle.history.specs.Limits.{maxOutput}
-use Rattle.history.specs.Output.{bidderLines, itemLine, itemLines, matchingWeight, sumOf, outputOf}
+use Rattle.history.specs.Output.{bidderLines, itemLine, itemLines, sumOf, outputOf}
 use Rattle.history.specs.Plan.{planFrom, planOf}
 use Rattle.history.specs.Laws.{PlanEnds, OutputFits, AcceptedIsWritten, PrintedFigures}
 use Rattle.history.proofs.Boards.{weight-most, weight-any, sum-is, sum-most-is}
@@ -64,7 +64,7 @@ items-length zero w f l h = omega arith
 items-length (suc n) w f l h =
     rw length-append (omega (arith, items-length n w f (omega arith) (λ i u. h i (omega arith)), item-length (w n) (n + 1) (f n) (omega arith) (h n (omega arith))))
 
-matched-wide : (b : Auction) → Sound b → (i : ℕ) → i < b .arrived → Wide (matchingOf b i)
+matched-wide : (b : Auction) → Sound b → (i : ℕ) → i < b .market .arrived → Wide (matchingOf b i)
 matched-wide b s i l = go (matchingOf b i) refl
   where
     go : (c : ℕ) → matchingOf b i ≡ c → Wide c
@@ -72,19 +72,19 @@ matched-wide b s i l = go (matchingOf b i) refl
     go (suc k) e = omega (arith, s .matches .along i k l e .0, s .items .1)
 
 greatest-most : (b : Auction) → Sound b → greatestOn b ≤ maxBidders * maxWeight
-greatest-most b s = let g = greatest-weight (b .arrived) (b .items) (live b) .attained in subst (λ (x : ℕ). x ≤ maxBidders * maxWeight) (g .2) (weight-any b s (g .0) (g .1))
+greatest-most b s = let g = greatest-weight (b .market .arrived) (b .market .items) (live b) .attained in subst (λ (x : ℕ). x ≤ maxBidders * maxWeight) (g .2) (weight-any b s (g .0) (g .1))
 
 output-length : (b : Auction) (bids : ℕ) → Sound b → Wide bids → length (outputOf b bids) ≤ maxOutput
 unfolding outputOf
 output-length b bids s w =
     let m = sum-most-is b s in
-    let prices : (k : ℕ) → k < b .items → Wide (priceAt b k) = λ k l. omega (arith, sumTo-term (b .items) k (priceAt b) l) in
-    let gains : (i : ℕ) → i < b .arrived → Wide (gainAt b i) = λ i l. omega (arith, sumTo-term (b .arrived) i (gainAt b) l) in
+    let prices : (k : ℕ) → k < b .market .items → Wide (priceAt b k) = λ k l. omega (arith, sumTo-term (b .market .items) k (priceAt b) l) in
+    let gains : (i : ℕ) → i < b .market .arrived → Wide (gainAt b i) = λ i l. omega (arith, sumTo-term (b .market .arrived) i (gainAt b) l) in
     rw (length-append, length-append, length-append) (
     omega (
       arith,
-      bidders-length (b .arrived) (matchingOf b) (gainAt b) (s .arrived) (λ i l. (matched-wide b s i l, gains i l)),
-      items-length (b .items) (withdrawnAt b) (priceAt b) (s .items .1) prices,
+      bidders-length (b .market .arrived) (matchingOf b) (gainAt b) (s .arrived) (λ i l. (matched-wide b s i l, gains i l)),
+      items-length (b .market .items) (withdrawnAt b) (priceAt b) (s .items .1) prices,
       three-fields 84 (matchingWeight b) (sumOf b) bids (omega (arith, weight-most b s)) (omega arith) w,
       one-field 69 (greatestOn b) (omega (arith, greatest-most b s)),
       s .arrived,
@@ -107,10 +107,15 @@ printed-figures s r (e, f) =
     let h = replay-reached s r e f in
     let b = r .auction in
     let d = history-demand-2 b (h .0) (r .bids) (h .1) in
-    let g = greatest-weight (b .arrived) (b .items) (live b) .attained in
+    let g = greatest-weight (b .market .arrived) (b .market .items) (live b) .attained in
+    let slack = b .market .slack in
     record {
       sum = sum-is b (d .sound);
-      share = subst (λ (x : ℕ). (b .slack .q - b .slack .p) * x ≤ (b .slack .q + b .slack .p) * matchingWeight b) (g .2) (sound-demand-2 b (d .sound) .share (g .0) (g .1));
+      share =
+          subst
+          (λ (x : ℕ). (slack .q - slack .p) * x ≤ (slack .q + slack .p) * matchingWeight b)
+          (g .2)
+          (sound-demand-2 b (d .sound) .share (g .0) (g .1));
       edges = h .0;
       reached = h .1;
       few = d .bids;

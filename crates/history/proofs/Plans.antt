@@ -8,55 +8,55 @@ use lib.Seq.{length-take-le}
 use borrow.Author.Tests.{lt-ltb, le-ltb}
 use Rattle.text.specs.Print.{Put}
 use Rattle.text.proofs.Puts.{front-taken}
-use Rattle.auction.specs.declared.refusal.Refusal.{Refusal}
-use Rattle.auction.specs.declared.replay.Ending.{Ending}
-use Rattle.auction.specs.declared.replay.Replayed.{Replayed}
-use Rattle.auction.specs.Rule.{done}
-use Rattle.auction.specs.Sound.{Sound}
-use Rattle.auction.specs.Replay.{replayOf}
+use Rattle.refusals.specs.declared.Refusal.{Refusal}
+use Rattle.replay.specs.declared.Ending.{Ending}
+use Rattle.replay.specs.declared.Replayed.{Replayed}
+use Rattle.bidding.specs.Rule.{done}
+use Rattle.board.specs.Sound.{Sound}
+use Rattle.replay.specs.Replay.{replayOf}
 use Rattle.auction.proofs.Histories.{history-demand-2}
-use Rattle.auction.proofs.ReplayLaws.{replay-reached}
+use Rattle.replay.proofs.ReplayLaws.{replay-reached}
 use Rattle.history.specs.declared.planning.Planned.{Planned}
 use Rattle.history.specs.Limits.{maxOutput}
 use Rattle.history.specs.Output.{outputOf, refusalOf}
-use Rattle.history.specs.Plan.{PlanOutcome, outcome, fitted, endedBy, planFrom, planOf, printedBy, printed, sheetOf}
+use Rattle.history.specs.Plan.{PlanOutcome, planned, fitted, endedBy, planFrom, planOf, printedBy, printed, sheetOf}
 
 -- ---- What fits
 
-pub fit-short : (bytes out : List ℕ) → length out < length bytes → fitted bytes out ≡ outcome (Planned.Refused Refusal.Short 0) out
+pub fit-short : (bytes out : List ℕ) → length out < length bytes → fitted bytes out ≡ planned (Planned.Refused Refusal.Short 0) out
 unfolding fitted
 fit-short bytes out h = rw (lt-ltb (length out) (length bytes) h)
 
-pub fit-written : (bytes out : List ℕ) → length bytes ≤ length out → fitted bytes out ≡ outcome (Planned.Written (length bytes)) (bytes ++ drop (length bytes) out)
+pub fit-written : (bytes out : List ℕ) → length bytes ≤ length out → fitted bytes out ≡ planned (Planned.Written (length bytes)) (bytes ++ drop (length bytes) out)
 unfolding fitted
 fit-written bytes out h = rw (le-ltb (length out) (length bytes) h)
 
 -- a page's first bytes
-pub page-short : (page out : List ℕ) (n : ℕ) → n ≤ length page → length out < n → outcome (Planned.Refused Refusal.Short 0) out ≡ fitted (take n page) out
+pub page-short : (page out : List ℕ) (n : ℕ) → n ≤ length page → length out < n → planned (Planned.Refused Refusal.Short 0) out ≡ fitted (take n page) out
 page-short page out n room h = sym (fit-short (take n page) out (omega (arith, length-take-le n page room)))
 
 pub page-written : (page out new : List ℕ) (n : ℕ) → n ≤ length page → n ≤ length out → new ≡ take n page ++ drop n out →
-    outcome (Planned.Written n) new ≡ fitted (take n page) out
+    planned (Planned.Written n) new ≡ fitted (take n page) out
 page-written page out new n room h e =
     let long = length-take-le n page room in
-    ap (outcome (Planned.Written n)) e
-    ∙ (ap (λ (k : ℕ). outcome (Planned.Written k) (take n page ++ drop k out)) (sym long)
+    ap (planned (Planned.Written n)) e
+    ∙ (ap (λ (k : ℕ). planned (Planned.Written k) (take n page ++ drop k out)) (sym long)
     ∙ sym (fit-written (take n page) out (omega (arith, long))))
 
 -- a page that was put
 pub page-put : {m bytes : List ℕ} {n : ℕ} (out new : List ℕ) (a : Planned) → Put (replicate maxOutput 0) m 0 bytes n → n ≤ maxOutput →
-    outcome a new ≡ fitted (take n m) out → outcome a new ≡ fitted bytes out
+    planned a new ≡ fitted (take n m) out → planned a new ≡ fitted bytes out
 page-put {bytes = bytes} {n = n} out new a p room e =
     e ∙ ap (λ (z : List ℕ). fitted z out) (front-taken (rw length-replicate (omega (arith, p .moved))) p)
 
 -- ---- A text
 
 module _ (s out : List ℕ) (r : Replayed) (e : done r ≡ replayOf s) where
-  pub plan-stopped : (q : Refusal) (n : ℕ) → r .answer ≡ Ending.Stopped q n → done (outcome (Planned.Refused q n) out) ≡ planOf s out
+  pub plan-stopped : (q : Refusal) (n : ℕ) → r .answer ≡ Ending.Stopped q n → done (planned (Planned.Refused q n) out) ≡ planOf s out
   unfolding planOf planFrom endedBy
   plan-stopped q n a = ap (λ (x : Ending). done (endedBy out (r .auction) (r .bids) x)) (sym a) ∙ ap (planFrom out) e
 
-  pub plan-finished : (a : Planned) (new : List ℕ) → r .answer ≡ Ending.Finished → outcome a new ≡ fitted (outputOf (r .auction) (r .bids)) out → done (outcome a new) ≡ planOf s out
+  pub plan-finished : (a : Planned) (new : List ℕ) → r .answer ≡ Ending.Finished → planned a new ≡ fitted (outputOf (r .auction) (r .bids)) out → done (planned a new) ≡ planOf s out
   unfolding planOf planFrom endedBy
   plan-finished a new f w = ap done w ∙ (ap (λ (x : Ending). done (endedBy out (r .auction) (r .bids) x)) (sym f) ∙ ap (planFrom out) e)
 
@@ -68,14 +68,14 @@ module _ (s out : List ℕ) (r : Replayed) (e : done r ≡ replayOf s) where
 
 -- a written plan, and a refusal, where the list has room for every output
 module _ (s out : List ℕ) (r : Replayed) (e : done r ≡ replayOf s) (room : r .answer ≡ Ending.Finished → length (outputOf (r .auction) (r .bids)) ≤ length out) where
-  by-ending : (a : Planned) (new : List ℕ) → done (outcome a new) ≡ planOf s out → (x : Ending) → r .answer ≡ x → outcome a new ≡ endedBy out (r .auction) (r .bids) x
+  by-ending : (a : Planned) (new : List ℕ) → done (planned a new) ≡ planOf s out → (x : Ending) → r .answer ≡ x → planned a new ≡ endedBy out (r .auction) (r .bids) x
   unfolding planOf planFrom
   by-ending a new w x f =
-      let v : done (outcome a new) ≡ done (endedBy out (r .auction) (r .bids) (r .answer)) = w ∙ ap (planFrom out) (sym e) in
-      let u : outcome a new ≡ endedBy out (r .auction) (r .bids) (r .answer) = cc in
+      let v : done (planned a new) ≡ done (endedBy out (r .auction) (r .bids) (r .answer)) = w ∙ ap (planFrom out) (sym e) in
+      let u : planned a new ≡ endedBy out (r .auction) (r .bids) (r .answer) = cc in
       u ∙ ap (endedBy out (r .auction) (r .bids)) f
 
-  pub sheet-written : (n : ℕ) (new : List ℕ) → done (outcome (Planned.Written n) new) ≡ planOf s out → (n ≡ length (sheetOf s)) × (new ≡ sheetOf s ++ drop n out)
+  pub sheet-written : (n : ℕ) (new : List ℕ) → done (planned (Planned.Written n) new) ≡ planOf s out → (n ≡ length (sheetOf s)) × (new ≡ sheetOf s ++ drop n out)
   unfolding sheetOf printed printedBy endedBy
   sheet-written n new w = go (r .answer) refl
     where
@@ -94,7 +94,7 @@ module _ (s out : List ℕ) (r : Replayed) (e : done r ≡ replayOf s) (room : r
           let z : _≡_ {A = ℕ} 0 1 = cc in
           absurd (omega arith)
 
-  pub sheet-refused : (q : Refusal) (n : ℕ) (new : List ℕ) → done (outcome (Planned.Refused q n) new) ≡ planOf s out → (refusalOf q n ≡ sheetOf s) × (new ≡ out)
+  pub sheet-refused : (q : Refusal) (n : ℕ) (new : List ℕ) → done (planned (Planned.Refused q n) new) ≡ planOf s out → (refusalOf q n ≡ sheetOf s) × (new ≡ out)
   unfolding sheetOf printed printedBy endedBy
   sheet-refused q n new w = go (r .answer) refl
     where

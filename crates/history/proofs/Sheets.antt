@@ -9,39 +9,41 @@ use lib.Seq.{length-take-le, take-at}
 use Rattle.text.specs.Limits.{maxLine}
 use Rattle.text.specs.Print.{Put}
 use Rattle.text.proofs.Puts.{front}
-use Rattle.auction.specs.declared.refusal.Refusal.{Refusal}
-use Rattle.auction.specs.Rule.{done}
-use Rattle.auction.specs.Refusals.{codeOf}
-use Rattle.auction.proofs.ReplayLaws.{replay-ends}
+use Rattle.refusals.specs.declared.Refusal.{Refusal}
+use Rattle.bidding.specs.Rule.{done}
+use Rattle.refusals.specs.Codes.{codeOf}
+use Rattle.replay.proofs.ReplayLaws.{replay-ends}
 use Rattle.history.specs.declared.planning.Planned.{Planned}
 use Rattle.history.specs.Limits.{maxOutput}
 use Rattle.history.specs.Output.{refusalLine}
-use Rattle.history.specs.Plan.{outcome, planOf, sheetOf}
+use Rattle.history.specs.Plan.{planned, planOf, sheetOf, SheetWritten}
 use Rattle.history.proofs.Plans.{sheet-written, sheet-refused}
 use Rattle.history.proofs.Laws.{output-fits}
 
--- the first n bytes of a list are what the program prints, and the others are as they were
-abbrev Printed : List ℕ → List ℕ → ℕ → List ℕ → Type 0
-Printed s before n after =
-    (n ≤ length after) × (n ≡ length (take n after)) × (take n after ≡ sheetOf s) × (after ≡ sheetOf s ++ drop n before)
-
-printed-by : (s before after : List ℕ) (n : ℕ) → n ≡ length (sheetOf s) → after ≡ sheetOf s ++ drop n before → Printed s before n after
+printed-by : (s before after : List ℕ) (n : ℕ) → n ≡ length (sheetOf s) → after ≡ sheetOf s ++ drop n before → SheetWritten s before after n
 printed-by s before after n long e =
     let h : n ≤ length after = rw e (rw length-append (omega (arith, long))) in
-    (h, sym (length-take-le n after h), ap (λ (l : List ℕ). take n l) e ∙ take-at (sheetOf s) (drop n before) n (sym long), e)
+    record {
+      fits = h;
+      long = sym (length-take-le n after h);
+      bytes = ap (λ (l : List ℕ). take n l) e ∙ take-at (sheetOf s) (drop n before) n (sym long);
+      list = e;
+    }
 
-module _ (s out new : List ℕ) (a : Planned) (room : maxOutput ≤ length out) (w : done (outcome a new) ≡ planOf s out) where
-  pub by-written : (n : ℕ) → a ≡ Planned.Written n → Printed s out n new
+module _ (s out new : List ℕ) (a : Planned) (room : maxOutput ≤ length out) (w : done (planned a new) ≡ planOf s out) where
+  pub by-written : (n : ℕ) → a ≡ Planned.Written n → SheetWritten s out new n
   by-written n e =
       let r = replay-ends s in
-      let p = sheet-written s out (r .0) (sym (r .1)) (λ f. le-trans (output-fits s (r .0) (r .1, f)) room) n new (subst (λ (x : Planned). done (outcome x new) ≡ planOf s out) e w) in
+      let v = subst (λ (x : Planned). done (planned x new) ≡ planOf s out) e w in
+      let p = sheet-written s out (r .0) (sym (r .1)) (λ f. le-trans (output-fits s (r .0) (r .1, f)) room) n new v in
       printed-by s out new n (p .0) (p .1)
 
   pub by-refused : (q : Refusal) (line number n : ℕ) (after : List ℕ) → a ≡ Planned.Refused q line → number ≡ codeOf q .number → maxOutput ≤ length new →
-      Put new after 0 (refusalLine number line) n → n ≤ maxLine → Printed s out n after
+      Put new after 0 (refusalLine number line) n → n ≤ maxLine → SheetWritten s out after n
   by-refused q line number n after e f room-new p short =
       let r = replay-ends s in
-      let (same, kept) = sheet-refused s out (r .0) (sym (r .1)) (λ g. le-trans (output-fits s (r .0) (r .1, g)) room) q line new (subst (λ (x : Planned). done (outcome x new) ≡ planOf s out) e w) in
+      let v = subst (λ (x : Planned). done (planned x new) ≡ planOf s out) e w in
+      let (same, kept) = sheet-refused s out (r .0) (sym (r .1)) (λ g. le-trans (output-fits s (r .0) (r .1, g)) room) q line new v in
       let long : n ≡ length (refusalLine number line) = omega (arith, p .moved) in
       let said : refusalLine number line ≡ sheetOf s = ap (λ (k : ℕ). refusalLine k line) f ∙ same in
       printed-by s out after n (long ∙ ap length said)

@@ -4,21 +4,22 @@ use mathlib.Core.List.{List, _++_}
 use Prim.Native.Nat.{ℕ, _+_, _-_, _*_, _≤_}
 use lib.ListN.{length, drop}
 use Rattle.duality.specs.Steps.{most}
-use Rattle.auction.specs.declared.board.Auction.{Auction}
-use Rattle.auction.specs.declared.replay.Ending.{Ending}
-use Rattle.auction.specs.declared.replay.Replayed.{Replayed}
-use Rattle.auction.specs.Rule.{done}
+use Rattle.board.specs.declared.record.Auction.{Auction}
+use Rattle.board.specs.Live.{matchingWeight}
+use Rattle.replay.specs.declared.Ending.{Ending}
+use Rattle.replay.specs.declared.Replayed.{Replayed}
+use Rattle.bidding.specs.Rule.{done}
 use Rattle.auction.specs.Histories.{Reached}
-use Rattle.auction.specs.Replay.{replayOf}
+use Rattle.replay.specs.Replay.{replayOf}
 use Rattle.hungarian.specs.Exact.{greatestOn}
 use Rattle.history.specs.declared.planning.Planned.{Planned}
 use Rattle.history.specs.Limits.{maxOutput}
-use Rattle.history.specs.Output.{matchingWeight, sumOf, outputOf}
-use Rattle.history.specs.Plan.{PlanOutcome, outcome, planOf}
+use Rattle.history.specs.Output.{sumOf, outputOf}
+use Rattle.history.specs.Plan.{PlanOutcome, planned, planOf}
 
 -- A text is accepted: it was replayed to its end, to a board with so many bids in all
-abbrev pub Accepted : List ℕ → Replayed → Type 0
-Accepted s r = (replayOf s ≡ done r) × (r .answer ≡ Ending.Finished)
+abbrev pub TextAccepted : List ℕ → Replayed → Type 0
+TextAccepted s r = (replayOf s ≡ done r) × (r .answer ≡ Ending.Finished)
 
 -- Every text has an outcome
 abbrev pub PlanEnds : Type 0
@@ -26,24 +27,24 @@ PlanEnds = (s out : List ℕ) → (o : PlanOutcome) × (planOf s out ≡ done o)
 
 -- No output is longer than the constant
 abbrev pub OutputFits : Type 0
-OutputFits = (s : List ℕ) (r : Replayed) → Accepted s r → length (outputOf (r .auction) (r .bids)) ≤ maxOutput
+OutputFits = (s : List ℕ) (r : Replayed) → TextAccepted s r → length (outputOf (r .auction) (r .bids)) ≤ maxOutput
 
 -- So with a list of that length an accepted text is written, and 8 never shows
 abbrev pub AcceptedIsWritten : Type 0
 AcceptedIsWritten =
-    (s out : List ℕ) (r : Replayed) → Accepted s r → maxOutput ≤ length out →
-    planOf s out ≡ done (outcome (Planned.Written (length (outputOf (r .auction) (r .bids)))) (outputOf (r .auction) (r .bids) ++ drop (length (outputOf (r .auction) (r .bids))) out))
+    (s out : List ℕ) (r : Replayed) → TextAccepted s r → maxOutput ≤ length out →
+    planOf s out ≡ done (planned (Planned.Written (length (outputOf (r .auction) (r .bids)))) (outputOf (r .auction) (r .bids) ++ drop (length (outputOf (r .auction) (r .bids))) out))
 
 -- The printed figures of a board that a history of so many bids reaches
 pub record FiguresHold (b : Auction) (bids : ℕ) : Type 0 where
   -- "Prices plus gains = (q + p) × worth"
-  pub sum : sumOf b ≡ (b .slack .q + b .slack .p) * matchingWeight b
+  pub sum : sumOf b ≡ (b .market .slack .q + b .market .slack .p) * matchingWeight b
   -- "worth × (q + p) ≥ (q - p) × any plan's worth", so of the greatest
-  pub share : (b .slack .q - b .slack .p) * greatestOn b ≤ (b .slack .q + b .slack .p) * matchingWeight b
+  pub share : (b .market .slack .q - b .market .slack .p) * greatestOn b ≤ (b .market .slack .q + b .market .slack .p) * matchingWeight b
   -- "the bids number at most the entries ever accepted times the whole part of (q - 1)/p"
   pub edges : ℕ
   pub reached : Reached b edges bids
-  pub few : bids ≤ edges * most (b .slack .p) (b .slack .q)
+  pub few : bids ≤ edges * most (b .market .slack .p) (b .market .slack .q)
 
 abbrev pub PrintedFigures : Type 0
-PrintedFigures = (s : List ℕ) (r : Replayed) → Accepted s r → FiguresHold (r .auction) (r .bids)
+PrintedFigures = (s : List ℕ) (r : Replayed) → TextAccepted s r → FiguresHold (r .auction) (r .bids)

@@ -1,4 +1,3 @@
-pub mod Figures
 pub mod Laws
 pub mod Limits
 pub mod Output

@@ -1,16 +1,17 @@
 -- What is printed, as bytes.
-use mathlib.Core.Bool.{Bool, false, cond}
+use mathlib.Core.Bool.{Bool, cond}
 use mathlib.Core.List.{List, [], _∷_, _++_}
 use Prim.Native.Nat.{ℕ, zero, suc, _+_}
-use lib.ListN.{getD}
 use Rattle.text.specs.Print.{lineOf}
-use Rattle.duality.specs.Matching.{weightOf}
+use Rattle.duality.specs.Lists.{cells}
 use Rattle.duality.specs.Cover.{total}
-use Rattle.auction.specs.declared.board.Auction.{Auction}
-use Rattle.auction.specs.declared.refusal.Refusal.{Refusal}
-use Rattle.auction.specs.Cells.{priceAt, gainAt, withdrawnAt}
-use Rattle.auction.specs.Live.{live, matchingOf}
-use Rattle.auction.specs.Refusals.{codeOf}
+use Rattle.board.specs.declared.record.Auction.{Auction}
+use Rattle.board.specs.declared.record.Market.{Market}
+use Rattle.board.specs.declared.lent.Columns.{Columns}
+use Rattle.refusals.specs.declared.Refusal.{Refusal}
+use Rattle.board.specs.Cells.{priceAt, gainAt, flagAt, withdrawnAt}
+use Rattle.board.specs.Live.{matchingOf, matchingWeight}
+use Rattle.refusals.specs.Codes.{codeOf}
 use Rattle.hungarian.specs.Exact.{greatestOn}
 
 -- "`P` batch, kettle or 0, gain": the lines of the first n bidders, in rising order
@@ -27,28 +28,25 @@ unfoldable pub itemLines : (withdrawn : ℕ → Bool) (price : ℕ → ℕ) → 
 itemLines withdrawn price zero = []
 itemLines withdrawn price (suc k) = itemLines withdrawn price k ++ itemLine (withdrawn k) (k + 1) (price k)
 
--- whether items are withdrawn, by cell
-abbrev pub flags : List Bool → ℕ → Bool
-flags withdrawn k = getD withdrawn k false
+-- the lines of both, of a market's bidders and items: "batches and then kettles in rising order"
+abbrev pub columnLines : Columns → Market → List ℕ
+columnLines c m = bidderLines (cells (c .plan)) (cells (c .gains)) (m .arrived) ++ itemLines (flagAt (m .withdrawn)) (cells (c .prices)) (m .items)
 
 -- "`T` worth, sum of prices and gains, bids in all; `E` greatest worth"
 abbrev pub lastLines : ℕ → ℕ → ℕ → ℕ → List ℕ
 lastLines weight sum bids greatest = lineOf 84 (weight ∷ sum ∷ bids ∷ []) ++ lineOf 69 (greatest ∷ [])
 
--- the figures of a board: the weight of its plan, and the sum of its prices and gains. The greatest weight of any plan is greatestOn: duality's
--- plain count over the live edges
-abbrev pub matchingWeight : Auction → ℕ
-matchingWeight b = weightOf (b .arrived) (live b) (matchingOf b)
-
+-- the sum of a board's prices and gains. The weight of its plan is matchingWeight, the board's own; the greatest weight of any plan is greatestOn:
+-- duality's plain count over the live edges
 abbrev pub sumOf : Auction → ℕ
-sumOf b = total (b .arrived) (b .items) (priceAt b) (gainAt b)
+sumOf b = total (b .market .arrived) (b .market .items) (priceAt b) (gainAt b)
 
 -- "prints, in lines and tabbed fields of the same kind but with numbers of any length, batches and then kettles in rising order": a board,
 -- and the bids in all
 unfoldable pub outputOf : Auction → ℕ → List ℕ
 outputOf b bids =
-    bidderLines (matchingOf b) (gainAt b) (b .arrived)
-    ++ (itemLines (withdrawnAt b) (priceAt b) (b .items)
+    bidderLines (matchingOf b) (gainAt b) (b .market .arrived)
+    ++ (itemLines (withdrawnAt b) (priceAt b) (b .market .items)
     ++ lastLines (matchingWeight b) (sumOf b) bids (greatestOn b))
 
 -- "A refused text prints only `R`, number, line"

@@ -1,15 +1,16 @@
 -- What a text is answered, what is written, and what the program prints.
+use mathlib.Core.Path.{_≡_}
 use mathlib.Core.Bool.{cond}
 use mathlib.Core.List.{List, [], _++_}
-use Prim.Native.Nat.{ℕ}
-use lib.ListN.{length, drop}
+use Prim.Native.Nat.{ℕ, _≤_}
+use lib.ListN.{length, take, drop}
 use lib.Dec.{ltb}
-use Rattle.auction.specs.declared.board.Auction.{Auction}
-use Rattle.auction.specs.declared.refusal.Refusal.{Refusal}
-use Rattle.auction.specs.declared.replay.Ending.{Ending}
-use Rattle.auction.specs.declared.replay.Replayed.{Replayed}
-use Rattle.auction.specs.Rule.{Outcome, done, spent}
-use Rattle.auction.specs.Replay.{replayOf}
+use Rattle.board.specs.declared.record.Auction.{Auction}
+use Rattle.refusals.specs.declared.Refusal.{Refusal}
+use Rattle.replay.specs.declared.Ending.{Ending}
+use Rattle.replay.specs.declared.Replayed.{Replayed}
+use Rattle.bidding.specs.Rule.{Outcome, done, spent}
+use Rattle.replay.specs.Replay.{replayOf}
 use Rattle.history.specs.declared.planning.Planned.{Planned}
 use Rattle.history.specs.Output.{outputOf, refusalOf}
 
@@ -18,20 +19,20 @@ pub record PlanOutcome : Type 0 where
   pub answer : Planned
   pub out : List ℕ
 
-abbrev pub outcome : Planned → List ℕ → PlanOutcome
-outcome answer out = record { answer = answer; out = out }
+abbrev pub planned : Planned → List ℕ → PlanOutcome
+planned answer out = record { answer = answer; out = out }
 
 -- "a list to be written has too few cells" (8); otherwise the bytes, and further cells as they were
 unfoldable pub fitted : List ℕ → List ℕ → PlanOutcome
 fitted bytes out =
     cond (ltb (length out) (length bytes))
-    (outcome (Planned.Refused Refusal.Short 0) out)
-    (outcome (Planned.Written (length bytes)) (bytes ++ drop (length bytes) out))
+    (planned (Planned.Refused Refusal.Short 0) out)
+    (planned (Planned.Written (length bytes)) (bytes ++ drop (length bytes) out))
 
 -- A text that is finished has its output; a refused one leaves the list as it was. 8 comes last
 unfoldable pub endedBy : List ℕ → Auction → ℕ → Ending → PlanOutcome
 endedBy out b bids Ending.Finished = fitted (outputOf b bids) out
-endedBy out b bids (Ending.Stopped r n) = outcome (Planned.Refused r n) out
+endedBy out b bids (Ending.Stopped r n) = planned (Planned.Refused r n) out
 
 unfoldable pub planFrom : List ℕ → Outcome Replayed → Outcome PlanOutcome
 planFrom out spent = spent
@@ -54,3 +55,11 @@ printed (done r) = printedBy (r .auction) (r .bids) (r .answer)
 -- "The sheet program reads this text .. and prints": from the bytes of a text to bytes
 unfoldable pub sheetOf : List ℕ → List ℕ
 sheetOf s = printed (replayOf s)
+
+-- The first n bytes of a list are what the program prints of a text, and the list's further cells are as they were
+pub record SheetWritten (s before after : List ℕ) (n : ℕ) : Type 0 where
+  -- These two let a caller take those bytes as a part
+  pub fits : n ≤ length after
+  pub long : n ≡ length (take n after)
+  pub bytes : take n after ≡ sheetOf s
+  pub list : after ≡ sheetOf s ++ drop n before

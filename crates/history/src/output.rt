@@ -1,18 +1,23 @@
 // The lines of the output, written one after the other.
-use auction::board::Auction;
+use board::lent::Columns;
+use board::record::Auction;
+use board::record::Market;
+use board::units::Pence;
+use board::units::Scaled;
 use text::print::put_line;
 ghost use Prim.Native.Nat.{_+_, _*_, _≤_};
 ghost use Rattle.text.specs.Limits.{maxLine, maxAt};
 ghost use Rattle.text.specs.Print.{Put};
 ghost use Rattle.duality.specs.Lists.{cells};
-ghost use Rattle.auction.specs.Limits.{maxItems, maxBidders};
-ghost use Rattle.history.specs.Output.{bidderLines, itemLine, itemLines, flags, lastLines};
+ghost use Rattle.board.specs.Limits.{maxItems, maxBidders};
+ghost use Rattle.board.specs.Cells.{flagAt};
+ghost use Rattle.history.specs.Output.{bidderLines, itemLine, itemLines, columnLines, lastLines};
 
 // "`P` batch, kettle or 0, gain": a line for each bidder.
-pub(crate) fn put_bidders(
+fn put_bidders<'a>(
     out: &mut [u8],
-    plan: &[u64; Auction::MAX_BIDDERS],
-    gains: &[u64; Auction::MAX_BIDDERS],
+    plan: &'a [u64; Auction::MAX_BIDDERS],
+    gains: &'a [u64; Auction::MAX_BIDDERS],
     count: usize,
 ) -> usize
     requires { ⌜ count ≤ maxBidders ⌝ }
@@ -39,15 +44,15 @@ fn put_item(out: &mut [u8], at: usize, withdrawn: bool, number: u64, price: u64)
 }
 
 // The lines of the items.
-pub(crate) fn put_items(
+fn put_items(
     out: &mut [u8],
     at: usize,
     withdrawn: [bool; Auction::MAX_ITEMS],
-    prices: &[u64; Auction::MAX_ITEMS],
+    prices: &[u64; Auction::MAX_BIDDERS],
     count: usize,
 ) -> usize
     requires { ⌜ (at ≤ maxLine * maxBidders) × (count ≤ maxItems) ⌝ }
-    ensures { λ r. ⌜ Put (now (out .entry)) (now (out .exit)) at (itemLines (flags withdrawn) (cells (now (prices .entry))) count) r × (r ≤ at + maxLine * count) ⌝ }
+    ensures { λ r. ⌜ Put (now (out .entry)) (now (out .exit)) at (itemLines (flagAt withdrawn) (cells (now (prices .entry))) count) r × (r ≤ at + maxLine * count) ⌝ }
 {
     let mut next = at;
     let mut k: usize = 0;
@@ -58,18 +63,30 @@ pub(crate) fn put_items(
     next
 }
 
+// The lines of the bidders, and of the items.
+pub(crate) fn put_columns(out: &mut [u8], columns: Columns, market: Market) -> usize
+    requires { ⌜ (market .arrived ≤ maxBidders) × (market .items ≤ maxItems) ⌝ }
+    ensures { λ r. ⌜ Put (now (out .entry)) (now (out .exit)) 0 (columnLines columns market) r × (r ≤ maxLine * (maxBidders + maxItems)) ⌝ }
+{
+    let bidders = market.arrived as usize;
+    let items = market.items as usize;
+    let withdrawn = market.withdrawn;
+    let next = put_bidders(out, &columns.plan, &columns.gains, bidders);
+    put_items(out, next, withdrawn, &columns.prices, items)
+}
+
 // "`T` worth, sum of prices and gains, bids in all; `E` greatest worth".
 pub(crate) fn put_last(
     out: &mut [u8],
     at: usize,
-    weight: u64,
-    sum: u64,
+    weight: Pence,
+    sum: Scaled,
     bids: u64,
-    greatest: u64,
+    greatest: Pence,
 ) -> usize
     requires { ⌜ at ≤ maxLine * (maxBidders + maxItems) ⌝ }
-    ensures { λ r. ⌜ Put (now (out .entry)) (now (out .exit)) at (lastLines weight sum bids greatest) r × (r ≤ at + maxLine * 2) ⌝ }
+    ensures { λ r. ⌜ Put (now (out .entry)) (now (out .exit)) at (lastLines (weight .0) (sum .0) bids (greatest .0)) r × (r ≤ at + maxLine * 2) ⌝ }
 {
-    let next = put_line(out, at, b'T', [weight, sum, bids], 3);
-    put_line(out, next, b'E', [greatest, 0, 0], 1)
+    let next = put_line(out, at, b'T', [weight.0, sum.0, bids], 3);
+    put_line(out, next, b'E', [greatest.0, 0, 0], 1)
 }

@@ -1,14 +1,14 @@
 // The plan of a history text, written to a lent list: all of it or nothing.
-use crate::output::put_bidders;
-use crate::output::put_items;
+use crate::output::put_columns;
 use crate::output::put_last;
 use crate::reading::greatest;
-use crate::reading::read;
-use crate::reading::sum;
-use auction::board::Auction;
-use auction::refusal::Refusal;
-use auction::replay::Ending;
-use auction::replay::replay;
+use crate::reading::total_of;
+use board::lent::columns_of;
+use board::record::Auction;
+use refusals::Refusal;
+use replay::Ending;
+use replay::replay;
+use text::print::MAX_LINE;
 use text::print::put_line;
 ghost use mathlib.Core.Path.{_≡_};
 ghost use mathlib.Core.List.{_++_};
@@ -16,12 +16,11 @@ ghost use Prim.Native.Nat.{_≤_};
 ghost use lib.ListN.{length, take, drop};
 ghost use Rattle.text.specs.Limits.{maxLine};
 ghost use Rattle.text.specs.Print.{Put};
-ghost use Rattle.auction.specs.Rule.{done};
-ghost use Rattle.auction.specs.Refusals.{codeOf};
-ghost use Rattle.auction.specs.Sound.{Sound};
+ghost use Rattle.bidding.specs.Rule.{done};
+ghost use Rattle.board.specs.Sound.{Sound};
 ghost use Rattle.history.specs.Limits.{maxOutput};
 ghost use Rattle.history.specs.Output.{outputOf, refusalLine};
-ghost use Rattle.history.specs.Plan.{outcome, fitted, planOf, sheetOf};
+ghost use Rattle.history.specs.Plan.{planned, fitted, planOf, SheetWritten};
 
 // What a text is answered: the bytes that were written, or a refusal and its line.
 pub enum Planned {
@@ -29,8 +28,8 @@ pub enum Planned {
     Refused(Refusal, u64),
 }
 
-// No output is longer.
-pub const MAX_OUTPUT: usize = 12610;
+// No output is longer: a line for each bidder and each item, and two more.
+pub const MAX_OUTPUT: usize = MAX_LINE * (Auction::MAX_BIDDERS + Auction::MAX_ITEMS + 2);
 
 // The first n bytes of a page, over the first n of out.
 fn copy(page: &[u8], n: usize, out: &mut [u8])
@@ -47,7 +46,7 @@ fn copy(page: &[u8], n: usize, out: &mut [u8])
 // A page's first n bytes, written where there is room for all of them.
 fn fit(page: &[u8; MAX_OUTPUT], n: usize, out: &mut [u8]) -> Planned
     requires { ⌜ n ≤ length (now page) ⌝ }
-    ensures { λ r. ⌜ outcome r (now (out .exit)) ≡ fitted (take n (now (page .entry))) (now (out .entry)) ⌝ }
+    ensures { λ r. ⌜ planned r (now (out .exit)) ≡ fitted (take n (now (page .entry))) (now (out .entry)) ⌝ }
 {
     if out.len() < n {
         return Planned::Refused(Refusal::Short, 0);
@@ -61,26 +60,23 @@ fn render(auction: Auction, bids: u64, page: &mut [u8]) -> usize
     requires { ⌜ Sound auction ⌝ }
     ensures { λ r. ⌜ Put (now (page .entry)) (now (page .exit)) 0 (outputOf auction bids) r × (r ≤ maxOutput) ⌝ }
 {
-    let figures = read(auction);
-    let plan = figures.plan;
-    let prices = figures.prices;
-    let gains = figures.gains;
-    let bidders = auction.arrived as usize;
-    let items = auction.items as usize;
-    let slack = auction.slack;
-    let withdrawn = auction.withdrawn;
-    let total = sum(&prices, items) + sum(&gains, bidders);
-    let weight = total / (slack.q + slack.p);
+    let market = auction.market;
+    let state = auction.state;
+    let bidders = market.arrived as usize;
+    let items = market.items as usize;
+    let slack = market.slack;
+    let columns = columns_of(state, items);
+    let total = total_of(columns, bidders, items);
+    let weight = slack.weight_of(total);
     let best = greatest(auction);
-    let after = put_bidders(page, &plan, &gains, bidders);
-    let last = put_items(page, after, withdrawn, &prices, items);
+    let last = put_columns(page, columns, market);
     put_last(page, last, weight, total, bids, best)
 }
 
 // The output of a board, where there is room for it.
 fn write_output(auction: Auction, bids: u64, out: &mut [u8]) -> Planned
     requires { ⌜ Sound auction ⌝ }
-    ensures { λ r. ⌜ outcome r (now (out .exit)) ≡ fitted (outputOf auction bids) (now (out .entry)) ⌝ }
+    ensures { λ r. ⌜ planned r (now (out .exit)) ≡ fitted (outputOf auction bids) (now (out .entry)) ⌝ }
 {
     let mut page = [0u8; MAX_OUTPUT];
     let n = render(auction, bids, &mut page);
@@ -89,7 +85,7 @@ fn write_output(auction: Auction, bids: u64, out: &mut [u8]) -> Planned
 
 // Replays a text and writes its plan.
 pub fn plan_text(text: &[u8], out: &mut [u8]) -> Planned
-    ensures { λ r. ⌜ done (outcome r (now (out .exit))) ≡ planOf (now (text .entry)) (now (out .entry)) ⌝ }
+    ensures { λ r. ⌜ done (planned r (now (out .exit))) ≡ planOf (now (text .entry)) (now (out .entry)) ⌝ }
 {
     let replayed = replay(text);
     let answer = replayed.answer;
@@ -108,44 +104,20 @@ fn put_refusal(number: u64, line: u64, page: &mut [u8]) -> usize
 
 // Writes the line that a refused text prints.
 pub fn refusal_line(number: u64, line: u64, out: &mut [u8]) -> Planned
-    ensures { λ r. ⌜ outcome r (now (out .exit)) ≡ fitted (refusalLine number line) (now (out .entry)) ⌝ }
+    ensures { λ r. ⌜ planned r (now (out .exit)) ≡ fitted (refusalLine number line) (now (out .entry)) ⌝ }
 {
     let mut page = [0u8; MAX_OUTPUT];
     let n = put_refusal(number, line, &mut page);
     fit(&page, n, out)
 }
 
-// The number of a refusal in the table.
-pub fn number_of(refusal: Refusal) -> u64
-    ensures { λ r. ⌜ r ≡ codeOf refusal .number ⌝ }
-{
-    match refusal {
-        Refusal::Count => 1,
-        Refusal::Slack => 2,
-        Refusal::Full => 3,
-        Refusal::Unknown(_) => 4,
-        Refusal::Gone(_) => 5,
-        Refusal::Worth(_) => 6,
-        Refusal::Order(_) => 7,
-        Refusal::Short => 8,
-        Refusal::Uneven => 9,
-        Refusal::Clash(_) => 10,
-        Refusal::Price(_) => 11,
-        Refusal::Bare(_) => 12,
-        Refusal::Spoilt => 13,
-        Refusal::Line(_) => 14,
-        Refusal::Long => 15,
-    }
-}
-
-// Writes what the program prints, and answers how many bytes that is; further cells are as they were. The first two clauses let a caller take
-// those bytes as a part.
+// Writes what the program prints, and answers how many bytes that is; further cells are as they were.
 pub fn sheet_text(text: &[u8], out: &mut [u8; MAX_OUTPUT]) -> usize
-    ensures { λ r. ⌜ (r ≤ length (now (out .exit))) × (r ≡ length (take r (now (out .exit)))) × (take r (now (out .exit)) ≡ sheetOf (now (text .entry))) × (now (out .exit) ≡ sheetOf (now (text .entry)) ++ drop r (now (out .entry))) ⌝ }
+    ensures { λ r. ⌜ SheetWritten (now (text .entry)) (now (out .entry)) (now (out .exit)) r ⌝ }
 {
     let planned = plan_text(text, out);
     match planned {
         Planned::Written(n) => n as usize,
-        Planned::Refused(refusal, line) => put_refusal(number_of(refusal), line, out),
+        Planned::Refused(refusal, line) => put_refusal(refusal.number(), line, out),
     }
 }

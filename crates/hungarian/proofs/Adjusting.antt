@@ -11,7 +11,7 @@ use lib.ListN.{set, length, length-set}
 use lib.Seq.{getD-set-same, getD-set-other}
 use Rattle.duality.specs.Lists.{cells}
 use Rattle.hungarian.specs.declared.tree.Tree.{Tree}
-use Rattle.auction.specs.Limits.{maxItems, maxBidders}
+use Rattle.board.specs.Limits.{maxItems, maxBidders}
 use Rattle.hungarian.specs.Settled.{Holds}
 use Rattle.hungarian.specs.Tree.{Visited, Unvisited, excessAt}
 use Rattle.hungarian.specs.Insertion.{Adjustable, Adjusted}

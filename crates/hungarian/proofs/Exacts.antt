@@ -5,40 +5,36 @@ use mathlib.Core.List.{List, [], _∷_}
 use Prim.Native.Nat.{ℕ, zero, suc, _+_, _*_, _≤_, _<_}
 use native.Mathlib.Nat.{one-mul}
 use native.Mathlib.Omega.{arith}
-use lib.ListN.{length, getD}
+use lib.ListN.{getD}
 use Rattle.duality.specs.Lists.{cells}
-use Rattle.duality.specs.Matching.{atCell, IsMatching, weightOf}
-use Rattle.duality.specs.Cover.{Covers, total}
-use Rattle.duality.specs.StrongDuality.{Equal}
-use Rattle.duality.proofs.Decide.{clash}
+use Rattle.duality.specs.Matching.{atCell, weightOf}
+use Rattle.duality.specs.Cover.{total}
 use Rattle.duality.proofs.Sums.{sumTo-eq}
 use Rattle.duality.proofs.Agree.{weight-as, total-as, matching-as, covers-as}
 use Rattle.duality.proofs.WeakDuality.{weak-duality}
 use Rattle.duality.proofs.GreatestWeight.{greatest-weight}
 use Rattle.duality.proofs.EqualExactlyWhenBest.{equal-exactly-when-best-lists}
-use Rattle.auction.specs.declared.board.Auction.{Auction}
-use Rattle.auction.specs.declared.refusal.Refusal.{Refusal}
-use Rattle.auction.specs.declared.refusal.Refusal.the-variants.{Short, Spoilt}
-use Rattle.auction.specs.declared.refusal.Verdict.{Verdict}
-use Rattle.auction.specs.declared.refusal.Verdict.the-variants.{Served, Refused}
-use Rattle.auction.specs.Limits.{maxItems, maxBidders}
-use Rattle.auction.specs.Cells.{pence, withdrawnAt, rowAt}
-use Rattle.auction.specs.Live.{live}
-use Rattle.auction.specs.Sound.{Sound}
-use Rattle.auction.specs.SoundTest.{soundTest}
-use Rattle.auction.specs.Refusals.{check, firstOf}
-use Rattle.auction.specs.Calls.{Lists, lists, Roomy, roomTest, ReadOutMet, written}
-use Rattle.auction.proofs.Written.{written-length}
-use Rattle.auction.proofs.ReadOuts.{written-in, written-past}
-use Rattle.auction.proofs.SoundLaw.{sound-decides}
-use Rattle.auction.proofs.Verdicts.{demand-1}
-use Rattle.auction.proofs.Demand1.{roomy-decides, read-out-decided}
+use Rattle.board.specs.declared.record.Auction.{Auction}
+use Rattle.refusals.specs.declared.Refusal.{Refusal}
+use Rattle.refusals.specs.declared.Refusal.the-variants.{Short, Spoilt}
+use Rattle.refusals.specs.declared.Verdict.{Verdict}
+use Rattle.refusals.specs.declared.Verdict.the-variants.{Served, Refused}
+use Rattle.board.specs.Limits.{maxItems}
+use Rattle.board.specs.Cells.{pence, withdrawnAt, rowAt}
+use Rattle.board.specs.Live.{live}
+use Rattle.board.specs.Sound.{Sound}
+use Rattle.refusals.specs.Demand1.{checkFor, firstOf}
+use Rattle.board.specs.Lent.{Lists, lists, Roomy, written}
+use Rattle.board.proofs.Written.{written-length, written-in, written-past}
+use Rattle.board.proofs.SoundLaw.{sound-decides}
+use Rattle.refusals.proofs.Verdicts.{demand-1}
+use Rattle.board.proofs.Lending.{roomy-decides, read-out-decided, lent-served}
 use Rattle.hungarian.specs.declared.exact.Greatest.{Greatest}
-use Rattle.hungarian.specs.Weights.{weightAt}
+use Rattle.hungarian.specs.Weights.{matrixAt}
 use Rattle.hungarian.specs.Solved.{Solved, Follows}
 use Rattle.hungarian.specs.LiveWeights.{LiveTo}
 use Rattle.hungarian.specs.Exact.{exactChecks, exactBy, exactOf, greatestOn, KeptFrom, Shows}
-use Rattle.hungarian.specs.Demand3.{EqualExactlyWhenBestOn, Demand3, ExactOutcome, ExactDemand1, ExactIsBest}
+use Rattle.hungarian.specs.Demand3.{EqualExactlyWhenBestOn, ExactOutcome, ExactDemand1, ExactIsBest}
 use Rattle.hungarian.proofs.Solving.{solved-is-greatest, solved-for-fewer}
 use Rattle.hungarian.proofs.LiveWeights.{live-is, live-unused}
 
@@ -68,9 +64,9 @@ pub kept-from : (n : ℕ) (f : ℕ → ℕ) (l : List ℕ) → KeptFrom n l (wri
 kept-from n f l = record { size = written-length n f l; further = λ i u. written-past n f l i u }
 
 -- Lists that hold what is solved on the live edges
-pub shows : (b : Auction) (l : Lists) (matrix : List ℕ) (matching price gain : ℕ → ℕ) (weight : ℕ) → Sound b → Roomy b l → LiveTo maxItems (b .weights) (b .withdrawn) matrix
-    → Solved (b .arrived) maxItems (weightAt matrix) matching price gain weight
-    → Shows b l (Greatest.Weight (pence weight)) (lists (written (b .arrived) matching (l .plan)) (written (b .items) price (l .prices)) (written (b .arrived) gain (l .gains)))
+pub shows : (b : Auction) (l : Lists) (matrix : List ℕ) (matching price gain : ℕ → ℕ) (weight : ℕ) → Sound b → Roomy b l → LiveTo maxItems (b .weights) (b .market .withdrawn) matrix
+    → Solved (b .market .arrived) maxItems (matrixAt matrix) matching price gain weight
+    → Shows b l (Greatest.Weight (pence weight)) (lists (written (b .market .arrived) matching (l .plan)) (written (b .market .items) price (l .prices)) (written (b .market .arrived) gain (l .gains)))
 shows b l matrix matching price gain weight s room p solved =
     record {
       answers = ap (λ x. Greatest.Weight (pence x)) (found .greatest);
@@ -80,90 +76,83 @@ shows b l matrix matching price gain weight s room p solved =
         same = weight-as _ (live b) matching _ plan-is ∙ found .equal .same ∙ sym (total-as _ _ price _ gain _ prices-are gains-are);
       };
       withdrawn = λ k lk gone. prices-are k lk ∙ found .unwanted k lk (λ i li. none k gone i);
-      plan = kept-from (b .arrived) matching (l .plan);
-      prices = kept-from (b .items) price (l .prices);
-      gains = kept-from (b .arrived) gain (l .gains);
+      plan = kept-from (b .market .arrived) matching (l .plan);
+      prices = kept-from (b .market .items) price (l .prices);
+      gains = kept-from (b .market .arrived) gain (l .gains);
     }
   where
-    on-live : Solved (b .arrived) maxItems (live b) matching price gain weight
+    on-live : Solved (b .market .arrived) maxItems (live b) matching price gain weight
     on-live = solved-as (λ i k li lk. live-is b s matrix p i k (omega (arith, s .arrived)) lk) solved
 
-    found : Follows (b .arrived) (b .items) (live b) matching price gain weight
+    found : Follows (b .market .arrived) (b .market .items) (live b) matching price gain weight
     found =
         solved-is-greatest _ _ _ _ _ _ _
-        (solved-for-fewer _ _ (b .items) _ _ _ _ _ (s .items .1) (λ i k li u lk. live-unused b s matrix p i k li u lk) on-live)
+        (solved-for-fewer _ _ (b .market .items) _ _ _ _ _ (s .items .1) (λ i k li u lk. live-unused b s matrix p i k li u lk) on-live)
 
-    plan-is : (i : ℕ) → i < b .arrived → cells (written (b .arrived) matching (l .plan)) i ≡ matching i
-    plan-is i li = written-in (b .arrived) matching (l .plan) (room .plan) i li
+    plan-is : (i : ℕ) → i < b .market .arrived → cells (written (b .market .arrived) matching (l .plan)) i ≡ matching i
+    plan-is i li = written-in (b .market .arrived) matching (l .plan) (room .plan) i li
 
-    prices-are : (k : ℕ) → k < b .items → cells (written (b .items) price (l .prices)) k ≡ price k
-    prices-are k lk = written-in (b .items) price (l .prices) (room .prices) k lk
+    prices-are : (k : ℕ) → k < b .market .items → cells (written (b .market .items) price (l .prices)) k ≡ price k
+    prices-are k lk = written-in (b .market .items) price (l .prices) (room .prices) k lk
 
-    gains-are : (i : ℕ) → i < b .arrived → cells (written (b .arrived) gain (l .gains)) i ≡ gain i
-    gains-are i li = written-in (b .arrived) gain (l .gains) (room .gains) i li
+    gains-are : (i : ℕ) → i < b .market .arrived → cells (written (b .market .arrived) gain (l .gains)) i ≡ gain i
+    gains-are i li = written-in (b .market .arrived) gain (l .gains) (room .gains) i li
 
     none : (k : ℕ) → withdrawnAt b k ≡ true → (i : ℕ) → live b i k ≡ 0
     none k gone i = ap (λ f. cond f 0 (getD (rowAt b i) k 0)) gone
 
 pub best-on : (b : Auction) → Sound b → EqualExactlyWhenBestOn b
-best-on b s plan prices gains = equal-exactly-when-best-lists (b .arrived) (b .items) (live b) plan prices gains
+best-on b s plan prices gains = equal-exactly-when-best-lists (b .market .arrived) (b .market .items) (live b) plan prices gains
 
 pub exact-is-best : ExactIsBest
 exact-is-best b before after answer s =
     record {
       weight = s .equal .same ∙ whole;
       sum = whole;
-      greatest = greatest-weight (b .arrived) (b .items) (live b) .bound;
-      least = λ y x c. least y x (weak-duality (b .arrived) (b .items) (live b) 1 (cells (after .plan)) y x (s .equal .matches) c);
+      greatest = greatest-weight (b .market .arrived) (b .market .items) (live b) .bound;
+      least = λ y x c. least y x (weak-duality (b .market .arrived) (b .market .items) (live b) 1 (cells (after .plan)) y x (s .equal .matches) c);
     }
   where
-    whole : total (b .arrived) (b .items) (cells (after .prices)) (cells (after .gains)) ≡ greatestOn b
-    whole = greatest-weight (b .arrived) (b .items) (live b) .equal _ _ _ (s .equal)
+    whole : total (b .market .arrived) (b .market .items) (cells (after .prices)) (cells (after .gains)) ≡ greatestOn b
+    whole = greatest-weight (b .market .arrived) (b .market .items) (live b) .equal _ _ _ (s .equal)
 
-    least : (y x : ℕ → ℕ) → 1 * weightOf (b .arrived) (live b) (cells (after .plan)) ≤ total (b .arrived) (b .items) y x → greatestOn b ≤ total (b .arrived) (b .items) y x
-    least y x l = rw (← (one-mul (weightOf (b .arrived) (live b) (cells (after .plan))) ∙ s .equal .same ∙ whole)) l
+    least : (y x : ℕ → ℕ) → 1 * weightOf (b .market .arrived) (live b) (cells (after .plan)) ≤ total (b .market .arrived) (b .market .items) y x →
+        greatestOn b ≤ total (b .market .arrived) (b .market .items) y x
+    least y x l = rw (← (one-mul (weightOf (b .market .arrived) (live b) (cells (after .plan))) ∙ s .equal .same ∙ whole)) l
 
 -- ---- The call's three ends
 
 module _ (b : Auction) (l : Lists) where
-  pub exact-spoilt : soundTest b ≡ false → ExactOutcome b l (Greatest.Refused Spoilt) l
-  unfolding exactOf exactBy firstOf
-  exact-spoilt f =
+  pub exact-refused : (r : Refusal) → firstOf (exactChecks b l) ≡ Refused r → ExactOutcome b l (Greatest.Refused r) l
+  unfolding exactOf exactBy
+  exact-refused r e =
       record {
-        answers = rw f refl;
-        refused = λ r e. refl;
-        demand3 = record { best = best-on b; exact = λ s. absurd (unsound s) };
+        answers = rw e refl;
+        refused = λ q f. refl;
+        demand3 = record { best = best-on b; exact = λ s room. absurd (never (serves-by s room)) };
       }
     where
-      unsound : Sound b → ⊥
-      unsound s = let e = sound-decides b .complete s in clash _ e f
+      serves-by : Sound b → Roomy b l → Served ≡ firstOf (exactChecks b l)
+      serves-by s room = lent-served b _ _ _ (sound-decides b .complete s) (roomy-decides b l .complete room)
 
-  module _ (sound : soundTest b ≡ true) where
-    pub exact-short : roomTest (b .arrived) (b .items) (length (l .plan)) (length (l .prices)) (length (l .gains)) ≡ false → ExactOutcome b l (Greatest.Refused Short) l
-    unfolding exactOf exactBy firstOf
-    exact-short f =
-        record {
-          answers = rw (sound, f) refl;
-          refused = λ r e. refl;
-          demand3 = record { best = best-on b; exact = λ s room. absurd (clash _ (roomy-decides b l .complete room) f) };
-        }
+      never : Served ≡ firstOf (exactChecks b l) → ⊥
+      never f = let q : Served ≡ Refused r = f ∙ e in let z : _≡_ {A = ℕ} 0 1 = cc in omega arith
 
-    pub exact-shown : (answer : Greatest) (after : Lists)
-        → roomTest (b .arrived) (b .items) (length (l .plan)) (length (l .prices)) (length (l .gains)) ≡ true → Shows b l answer after → ExactOutcome b l answer after
-    unfolding exactOf exactBy firstOf
-    exact-shown answer after room s =
-        record {
-          answers = rw (sound, room) (s .answers);
-          refused = λ r e. absurd (never r (sym (s .answers) ∙ e));
-          demand3 = record { best = best-on b; exact = λ _ _. s };
-        }
-      where
-        never : (r : Refusal) → Greatest.Weight (pence (greatestOn b)) ≡ Greatest.Refused r → ⊥
-        never r e = let z : _≡_ {A = ℕ} 0 1 = cc in absurd (omega arith)
+  pub exact-shown : (answer : Greatest) (after : Lists) → firstOf (exactChecks b l) ≡ Served → Shows b l answer after → ExactOutcome b l answer after
+  unfolding exactOf exactBy
+  exact-shown answer after e s =
+      record {
+        answers = rw e (s .answers);
+        refused = λ r f. absurd (never r (sym (s .answers) ∙ f));
+        demand3 = record { best = best-on b; exact = λ _ _. s };
+      }
+    where
+      never : (r : Refusal) → Greatest.Weight (pence (greatestOn b)) ≡ Greatest.Refused r → ⊥
+      never r e = let z : _≡_ {A = ℕ} 0 1 = cc in absurd (omega arith)
 
 -- ---- Demand 1
 
-both : (t u : Bool) → firstOf (check Spoilt (not t) ∷ (check Short (not u) ∷ [])) ≡ Served → (t ≡ true) × (u ≡ true)
+both : (t u : Bool) → firstOf (checkFor Spoilt (not t) ∷ (checkFor Short (not u) ∷ [])) ≡ Served → (t ≡ true) × (u ≡ true)
 unfolding firstOf
 both true true e = (refl, refl)
 both true false e = let z : _≡_ {A = ℕ} 0 1 = cc in absurd (omega arith)

@@ -7,26 +7,26 @@ use native.Mathlib.Decide.{ℕ-discrete, decLt}
 use native.Mathlib.Omega.{arith}
 use Rattle.duality.specs.Lists.{cells}
 use Rattle.hungarian.specs.declared.tree.Tree.{Tree}
-use Rattle.auction.specs.Limits.{maxItems}
+use Rattle.board.specs.Limits.{maxItems}
 use Rattle.hungarian.specs.Limits.{unreached}
-use Rattle.hungarian.specs.Weights.{weightAt}
-use Rattle.hungarian.specs.Tree.{Visited, Unvisited, visitedAt, excessAt, parentAt, Reached, TightNow}
+use Rattle.hungarian.specs.Weights.{matrixAt}
+use Rattle.hungarian.specs.Tree.{Visited, Unvisited, visitedAt, excessAt, parentAt, InTree, TightNow}
 use Rattle.hungarian.specs.Growth.{Everyone, Parent, Grown}
 use Rattle.hungarian.specs.Reach.{Fits, Looked}
 use Rattle.hungarian.specs.Path.{released}
 use Rattle.hungarian.specs.Search.{Inserting, BidderStart, ItemStart, Extends, Ended}
 use Rattle.hungarian.proofs.Cells.{mark, price-unvisited}
-use Rattle.hungarian.proofs.Reached.{reached-as, still-reached, all-covered, all-low, cheap, inside, one-level}
+use Rattle.hungarian.proofs.InTree.{reached-as, still-reached, all-covered, all-low, cheap, inside, one-level}
 
 module _ {weights price gain : List ℕ} {bidder : ℕ} {t : Tree} (s : BidderStart weights price gain bidder t) where
   abbrev w : ℕ → ℕ → ℕ
-  w = weightAt weights
+  w = matrixAt weights
 
   -- The bidder is one of those inserted
   pub bidder-inside : bidder < suc (t .root)
   bidder-inside = inside (s .inserting) (s .reached)
 
-  pub bidder-fits : Fits (weightAt weights) (cells price) bidder (cells gain bidder + t .fall) t
+  pub bidder-fits : Fits (matrixAt weights) (cells price) bidder (cells gain bidder + t .fall) t
   bidder-fits =
       record {
         near = omega (arith, bidder-inside, s .inserting .near);
@@ -34,7 +34,7 @@ module _ {weights price gain : List ℕ} {bidder : ℕ} {t : Tree} (s : BidderSt
         small = λ k l u. omega (arith, all-low (s .inserting) bidder bidder-inside, cheap (s .inserting) k l, s .grown .below, s .grown .most);
       }
 
-  module _ {r : Tree} (l : Looked (weightAt weights) (cells price) bidder (cells gain bidder + t .fall) t r) where
+  module _ {r : Tree} (l : Looked (matrixAt weights) (cells price) bidder (cells gain bidder + t .fall) t r) where
     -- What is visited is the same, with its excess
     grows : Extends t r
     grows = record { root = l .root; visited = λ k v. rw (l .visited) v; excess = l .relaxed .kept }
@@ -51,11 +51,11 @@ module _ {weights price gain : List ℕ} {bidder : ℕ} {t : Tree} (s : BidderSt
     before k u = rw (l .visited) at u
 
     -- The level of the bidder itself
-    own : {i level : ℕ} → i ≡ bidder → Reached (cells gain) (cells (t .holder)) r i level → level ≡ cells gain bidder + t .fall
+    own : {i level : ℕ} → i ≡ bidder → InTree (cells gain) (cells (t .holder)) r i level → level ≡ cells gain bidder + t .fall
     own e q = one-level (s .inserting) (rw e at (still-reached shrinks q)) (s .reached)
 
     -- The low level is no more than it was, nor than the bidder's own, and no less than the fall
-    low-less : (r .low ≤ cells gain bidder + t .fall) × (r .low ≤ t .low) × (t .fall ≤ r .low) × Reached (cells gain) (cells (t .holder)) t (r .lowest) (r .low)
+    low-less : (r .low ≤ cells gain bidder + t .fall) × (r .low ≤ t .low) × (t .fall ≤ r .low) × InTree (cells gain) (cells (t .holder)) t (r .lowest) (r .low)
     low-less =
         let (low, who) = l .lowest in
         by-cases (decLt (cells gain bidder + t .fall) (t .low))
@@ -89,7 +89,7 @@ module _ {weights price gain : List ℕ} {bidder : ℕ} {t : Tree} (s : BidderSt
             (whose (r .next) lk u)
 
     -- No edge of a reached bidder has less than the excess; none is lower; and the parents are right
-    covered : (i level k : ℕ) → Reached (cells gain) (cells (t .holder)) r i level → k < maxItems → w i k + excessAt r k ≤ level + cells price k
+    covered : (i level k : ℕ) → InTree (cells gain) (cells (t .holder)) r i level → k < maxItems → w i k + excessAt r k ≤ level + cells price k
     covered i level k q lk =
         by-cases (ℕ-discrete i bidder)
         (λ (e : i ≡ bidder). rw e (here (own e q) (mark (visitedAt t k))))
@@ -103,7 +103,7 @@ module _ {weights price gain : List ℕ} {bidder : ℕ} {t : Tree} (s : BidderSt
         there h (inl v) = omega (arith, l .relaxed .kept k v)
         there h (inr u) = ⊎-elim (λ f. omega (arith, f .0)) (λ f. omega (arith, f .2)) (whose k lk u)
 
-    least : (i level : ℕ) → Reached (cells gain) (cells (t .holder)) r i level → r .low ≤ level
+    least : (i level : ℕ) → InTree (cells gain) (cells (t .holder)) r i level → r .low ≤ level
     least i level q =
         by-cases (ℕ-discrete i bidder)
         (λ (e : i ≡ bidder). omega (arith, own e q, low-less .0))
@@ -128,7 +128,7 @@ module _ {weights price gain : List ℕ} {bidder : ℕ} {t : Tree} (s : BidderSt
         (whose k lk (before k u))
 
     -- The tree, all of it looked from
-    pub grown-on : Grown (weightAt weights) (cells price) (cells gain) (cells (t .holder)) r Everyone
+    pub grown-on : Grown (matrixAt weights) (cells price) (cells gain) (cells (t .holder)) r Everyone
     grown-on =
         record {
           balanced = record {
@@ -154,19 +154,19 @@ module _ {weights price gain : List ℕ} {bidder : ℕ} {t : Tree} (s : BidderSt
             record {
               inserting = subst (λ (h : List ℕ). Inserting weights (cells price) (cells gain) (cells h) (r .root)) (sym (l .holder))
                   (subst (λ (i : ℕ). Inserting weights (cells price) (cells gain) (cells (t .holder)) i) (sym (l .root)) (s .inserting));
-              grown = subst (λ (h : List ℕ). Grown (weightAt weights) (cells price) (cells gain) (cells h) r Everyone) (sym (l .holder)) grown-on;
+              grown = subst (λ (h : List ℕ). Grown (matrixAt weights) (cells price) (cells gain) (cells h) r Everyone) (sym (l .holder)) grown-on;
               near = lk;
               fresh = fresh;
               just = e;
-              tight = subst (λ (h : List ℕ). TightNow (weightAt weights) (cells price) (cells gain) (cells h) r (parentAt r (r .next)) (r .next)) (sym (l .holder))
+              tight = subst (λ (h : List ℕ). TightNow (matrixAt weights) (cells price) (cells gain) (cells h) r (parentAt r (r .next)) (r .next)) (sym (l .holder))
                   (⊎-elim (λ h. absurd (omega (arith, grown-on .most))) (λ p. tight p) (grown-on .parent (r .next) lk fresh));
             }
           where
             fresh : Unvisited r (r .next)
             fresh = rw (l .visited) u
 
-            tight : Parent (weightAt weights) (cells price) (cells gain) (cells (t .holder)) r (r .next)
-                → TightNow (weightAt weights) (cells price) (cells gain) (cells (t .holder)) r (parentAt r (r .next)) (r .next)
+            tight : Parent (matrixAt weights) (cells price) (cells gain) (cells (t .holder)) r (r .next)
+                → TightNow (matrixAt weights) (cells price) (cells gain) (cells (t .holder)) r (parentAt r (r .next)) (r .next)
             tight p =
                 let high = grown-on .least (parentAt r (r .next)) (p .level) refl (p .reached) in
                 record {
@@ -206,6 +206,6 @@ module _ {weights price gain : List ℕ} {bidder : ℕ} {t : Tree} (s : BidderSt
           balanced = rw (l .holder) at (d .balanced);
           most = d .most;
           path = rw (l .holder) at (d .path);
-          start = (d .start .0, still-reached shrinks (subst (λ (h : List ℕ). Reached (cells gain) (cells h) r (z .mover) (d .start .0)) (l .holder) (d .start .1)));
+          start = (d .start .0, still-reached shrinks (subst (λ (h : List ℕ). InTree (cells gain) (cells h) r (z .mover) (d .start .0)) (l .holder) (d .start .1)));
           kept = λ k v. d .kept k (grows .visited k v) ∙ ap (λ z. cells z k) (l .holder);
         }

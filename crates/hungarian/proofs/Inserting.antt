@@ -11,16 +11,16 @@ use lib.Seq.{getD-set-same, getD-set-other}
 use Rattle.duality.specs.Lists.{cells}
 use Rattle.duality.proofs.Below.{find, one-more}
 use Rattle.hungarian.specs.declared.tree.Tree.{Tree}
-use Rattle.auction.specs.Limits.{maxItems, maxBidders, maxWeight}
-use Rattle.hungarian.specs.Weights.{weightAt, Light}
+use Rattle.board.specs.Limits.{maxItems, maxBidders, maxWeight}
+use Rattle.hungarian.specs.Weights.{matrixAt, Light}
 use Rattle.hungarian.specs.Settled.{Holds, TightEdge, Settled}
-use Rattle.hungarian.specs.Tree.{Visited, Unvisited, visitedAt, excessAt, priceNow, Reached, as-root, as-holder, TightNow, IdleNow}
+use Rattle.hungarian.specs.Tree.{Visited, Unvisited, visitedAt, excessAt, priceNow, InTree, as-root, as-holder, TightNow, IdleNow}
 use Rattle.hungarian.specs.Growth.{Everyone, Balanced, Sprout}
 use Rattle.hungarian.specs.Path.{Path}
 use Rattle.hungarian.specs.Search.{Inserting, BidderStart, Ended}
 use Rattle.hungarian.specs.Insertion.{Adjustable, Adjusted}
 use Rattle.hungarian.proofs.Cells.{getD-all, mark, never, price-visited, price-unvisited}
-use Rattle.hungarian.proofs.Reached.{all-covered, all-low, cheap, held-visited}
+use Rattle.hungarian.proofs.InTree.{all-covered, all-low, cheap, held-visited}
 use Rattle.hungarian.proofs.Visiting.{path-from}
 use Rattle.hungarian.proofs.Shifting.{Shifted, shifted}
 
@@ -41,7 +41,7 @@ none-settled w =
 
 -- A bidder comes in with a gain at the limit
 pub entered : (weights price gain holder : List ℕ) (n : ℕ) → Light weights → n < maxBidders → length gain ≡ maxBidders
-    → Settled (weightAt weights) (cells price) (cells gain) (cells holder) n → Inserting weights (cells price) (cells (set gain n maxWeight)) (cells holder) n
+    → Settled (matrixAt weights) (cells price) (cells gain) (cells holder) n → Inserting weights (cells price) (cells (set gain n maxWeight)) (cells holder) n
 entered weights price gain holder n light near long s =
     record {
       light = light;
@@ -88,19 +88,19 @@ sprouted weights price gain holder n t p full s =
       };
     }
   where
-    alone : (i level : ℕ) → i ≢ n → Reached (cells gain) (cells (t .holder)) t i level → ⊥
+    alone : (i level : ℕ) → i ≢ n → InTree (cells gain) (cells (t .holder)) t i level → ⊥
     alone i level ne (as-root e f) = ne (e ∙ p .root)
     alone i level ne (as-holder k v h f) = never v (p .fresh k)
 
 -- Both together
 pub first-tree : (weights price gain holder : List ℕ) (n : ℕ) (t : Tree) → Light weights → n < maxBidders → length gain ≡ maxBidders
-    → Settled (weightAt weights) (cells price) (cells gain) (cells holder) n → Sprout n holder t → BidderStart weights price (set gain n maxWeight) n t
+    → Settled (matrixAt weights) (cells price) (cells gain) (cells holder) n → Sprout n holder t → BidderStart weights price (set gain n maxWeight) n t
 first-tree weights price gain holder n t light near long s p =
     sprouted weights price (set gain n maxWeight) holder n t p (getD-set-same gain n maxWeight 0 (omega arith)) (entered weights price gain holder n light near long s)
 
 -- The tree is exhausted
 module _ {weights : List ℕ} {price gain holder : ℕ → ℕ} {r : Tree} (s : Inserting weights price gain holder (r .root))
-    (b : Balanced (weightAt weights) price gain holder r Everyone) (most : r .fall ≤ maxWeight) where
+    (b : Balanced (matrixAt weights) price gain holder r Everyone) (most : r .fall ≤ maxWeight) where
   visited-near : (k : ℕ) → Visited r k → k < maxItems
   visited-near k v = let (i, h) = b .held k v in s .settled .held .known k i h .0
 
@@ -115,7 +115,7 @@ module _ {weights : List ℕ} {price gain holder : ℕ → ℕ} {r : Tree} (s : 
       }
 
   -- Who is reached
-  reached-or-not : (i : ℕ) → ((level : ℕ) × Reached gain holder r i level) ⊎ ((level : ℕ) → Reached gain holder r i level → ⊥)
+  reached-or-not : (i : ℕ) → ((level : ℕ) × InTree gain holder r i level) ⊎ ((level : ℕ) → InTree gain holder r i level → ⊥)
   reached-or-not i =
       by-cases (ℕ-discrete i (r .root))
       (λ e. inl (gain i, as-root e refl))
@@ -131,7 +131,7 @@ module _ {weights : List ℕ} {price gain holder : ℕ → ℕ} {r : Tree} (s : 
           (λ u. no (λ q. never (q .0) u))
           (mark (visitedAt r k))
 
-      neither : {level : ℕ} → i ≢ r .root → ((k : ℕ) → k < maxItems → Visited r k × Holds holder k i → ⊥) → Reached gain holder r i level → ⊥
+      neither : {level : ℕ} → i ≢ r .root → ((k : ℕ) → k < maxItems → Visited r k × Holds holder k i → ⊥) → InTree gain holder r i level → ⊥
       neither ne none (as-root e f) = ne e
       neither ne none (as-holder k v h f) = none k (visited-near k v) (v, h)
 
@@ -147,7 +147,7 @@ module _ {weights : List ℕ} {price gain holder : ℕ → ℕ} {r : Tree} (s : 
         (λ l. a .prices k l)
         (λ g. a .further k (omega arith) ∙ sym (price-unvisited price r k (⊎-elim (λ v. absurd (g (visited-near k v))) (λ u. u) (mark (visitedAt r k)))))
 
-    gain-reached : {i level : ℕ} → Reached gain holder r i level → gain′ i ≡ level - r .fall
+    gain-reached : {i level : ℕ} → InTree gain holder r i level → gain′ i ≡ level - r .fall
     gain-reached (as-root e f) = rw (f, e) (omega (arith, root-kept))
     gain-reached {i} (as-holder k v h f) =
         omega (
@@ -158,18 +158,18 @@ module _ {weights : List ℕ} {price gain holder : ℕ → ℕ} {r : Tree} (s : 
           b .deep i (gain i + excessAt r k) refl (as-holder k v h refl),
         )
 
-    gain-other : {i : ℕ} → ((level : ℕ) → Reached gain holder r i level → ⊥) → gain′ i ≡ gain i
+    gain-other : {i : ℕ} → ((level : ℕ) → InTree gain holder r i level → ⊥) → gain′ i ≡ gain i
     gain-other {i} none = other i (λ e. none (gain i) (as-root e refl)) ∙ a .others i (λ k l v h. none _ (as-holder k v h refl))
 
     fallen : (i : ℕ) → gain′ i ≤ gain i
     fallen i = ⊎-elim (λ q. by-level (q .1)) (λ none. omega (arith, gain-other none)) (reached-or-not i)
       where
-        by-level : {level : ℕ} → Reached gain holder r i level → gain′ i ≤ gain i
+        by-level : {level : ℕ} → InTree gain holder r i level → gain′ i ≤ gain i
         by-level (as-root e f) = omega (arith, gain-reached (as-root e f))
         by-level (as-holder k v h f) = omega (arith, gain-reached (as-holder k v h f), b .early k v)
 
     -- What was held is tight still
-    still : (k i : ℕ) → Holds holder k i → TightEdge (weightAt weights) price′ gain′ i k
+    still : (k i : ℕ) → Holds holder k i → TightEdge (matrixAt weights) price′ gain′ i k
     still k i h =
         record {
           edge = s .settled .tight k i h .edge;
@@ -185,29 +185,29 @@ module _ {weights : List ℕ} {price gain holder : ℕ → ℕ} {r : Tree} (s : 
               (mark (visitedAt r k)));
         }
 
-    tight-then : (i k : ℕ) → TightNow (weightAt weights) price gain holder r i k → TightEdge (weightAt weights) price′ gain′ i k
+    tight-then : (i k : ℕ) → TightNow (matrixAt weights) price gain holder r i k → TightEdge (matrixAt weights) price′ gain′ i k
     tight-then i k x = record { edge = x .edge; even = rw (price-at k, gain-reached (x .reached)) (x .even) }
 
     idle-then : (i : ℕ) → IdleNow gain holder r i → gain′ i ≡ 0
     idle-then i q = omega (arith, gain-reached q)
 
-    all-covered-then : (i k : ℕ) → i < suc (r .root) → k < maxItems → weightAt weights i k ≤ gain′ i + price′ k
+    all-covered-then : (i k : ℕ) → i < suc (r .root) → k < maxItems → matrixAt weights i k ≤ gain′ i + price′ k
     all-covered-then i k l lk =
         rw (price-at k) (⊎-elim (λ q. reached (q .0) (q .1) (mark (visitedAt r k))) (λ none. unreached-one (gain-other none) (mark (visitedAt r k))) (reached-or-not i))
       where
-        reached : (level : ℕ) → Reached gain holder r i level → Visited r k ⊎ Unvisited r k → weightAt weights i k ≤ gain′ i + priceNow price r k
+        reached : (level : ℕ) → InTree gain holder r i level → Visited r k ⊎ Unvisited r k → matrixAt weights i k ≤ gain′ i + priceNow price r k
         reached level q (inl v) =
             rw (price-visited price r k v) (omega (arith, b .covered i level k refl q lk, b .deep i level refl q, b .early k v, gain-reached q))
         reached level q (inr u) =
             rw (price-unvisited price r k u) (omega (arith, b .covered i level k refl q lk, b .deep i level refl q, b .late k lk u, gain-reached q))
 
-        unreached-one : gain′ i ≡ gain i → Visited r k ⊎ Unvisited r k → weightAt weights i k ≤ gain′ i + priceNow price r k
+        unreached-one : gain′ i ≡ gain i → Visited r k ⊎ Unvisited r k → matrixAt weights i k ≤ gain′ i + priceNow price r k
         unreached-one e (inl v) = rw (price-visited price r k v) (omega (arith, all-covered s i k l lk))
         unreached-one e (inr u) = rw (price-unvisited price r k u) (omega (arith, all-covered s i k l lk))
 
     -- All bidders, the root too, are settled after a shift along a path from the root
-    pub all-settled : (after : ℕ → ℕ) → Path (TightNow (weightAt weights) price gain holder r) (IdleNow gain holder r) holder (r .root) after
-        → Settled (weightAt weights) price′ gain′ after (suc (r .root))
+    pub all-settled : (after : ℕ → ℕ) → Path (TightNow (matrixAt weights) price gain holder r) (IdleNow gain holder r) holder (r .root) after
+        → Settled (matrixAt weights) price′ gain′ after (suc (r .root))
     all-settled after path =
         record {
           held = record {
@@ -241,8 +241,8 @@ module _ {weights price gain holder : List ℕ} {n : ℕ} {t r : Tree} (s : Inse
   at-root : Inserting weights (cells price) (cells gain) (cells holder) (r .root)
   at-root = subst (λ (i : ℕ). Inserting weights (cells price) (cells gain) (cells holder) i) (sym root-is) s
 
-  exhausted : Balanced (weightAt weights) (cells price) (cells gain) (cells holder) r Everyone
-  exhausted = subst (λ (l : List ℕ). Balanced (weightAt weights) (cells price) (cells gain) (cells l) r Everyone) (p .holder) (d .balanced)
+  exhausted : Balanced (matrixAt weights) (cells price) (cells gain) (cells holder) r Everyone
+  exhausted = subst (λ (l : List ℕ). Balanced (matrixAt weights) (cells price) (cells gain) (cells l) r Everyone) (p .holder) (d .balanced)
 
   pub tree-adjustable : Adjustable (cells price) (cells gain) (cells holder) r
   tree-adjustable = adjustable at-root exhausted (d .most)
@@ -251,13 +251,13 @@ module _ {weights price gain holder : List ℕ} {n : ℕ} {t r : Tree} (s : Inse
   starts : r .mover ≡ r .root
   starts = from (d .start .1)
     where
-      from : {level : ℕ} → Reached (cells gain) (cells (t .holder)) t (r .mover) level → r .mover ≡ r .root
+      from : {level : ℕ} → InTree (cells gain) (cells (t .holder)) t (r .mover) level → r .mover ≡ r .root
       from (as-root e f) = e ∙ sym (d .extends .root)
       from (as-holder k v h f) = never v (p .fresh k)
 
-  path : Path (TightNow (weightAt weights) (cells price) (cells gain) (cells holder) r) (IdleNow (cells gain) (cells holder) r) (cells holder) (r .root) (cells (r .holder))
+  path : Path (TightNow (matrixAt weights) (cells price) (cells gain) (cells holder) r) (IdleNow (cells gain) (cells holder) r) (cells holder) (r .root) (cells (r .holder))
   path =
-      subst (λ (l : List ℕ). Path (TightNow (weightAt weights) (cells price) (cells gain) (cells l) r) (IdleNow (cells gain) (cells l) r) (cells l) (r .root) (cells (r .holder)))
+      subst (λ (l : List ℕ). Path (TightNow (matrixAt weights) (cells price) (cells gain) (cells l) r) (IdleNow (cells gain) (cells l) r) (cells l) (r .root) (cells (r .holder)))
       (p .holder) (path-from starts (d .path))
 
   module _ (price′ gain₁ : List ℕ) (a : Adjusted (cells price) (cells gain) (cells holder) r (cells price′) (cells gain₁) maxItems) where
@@ -270,9 +270,9 @@ module _ {weights price gain holder : List ℕ} {n : ℕ} {t r : Tree} (s : Inse
         )
 
     pub inserted : length gain₁ ≡ maxBidders
-        → Settled (weightAt weights) (cells price′) (cells (set gain₁ n (cells gain₁ n - r .fall))) (cells (r .holder)) (n + 1)
+        → Settled (matrixAt weights) (cells price′) (cells (set gain₁ n (cells gain₁ n - r .fall))) (cells (r .holder)) (n + 1)
     inserted long =
-        subst (λ (i : ℕ). Settled (weightAt weights) (cells price′) (cells (set gain₁ n (cells gain₁ n - r .fall))) (cells (r .holder)) i) (ap suc root-is ∙ sym (add-one n))
+        subst (λ (i : ℕ). Settled (matrixAt weights) (cells price′) (cells (set gain₁ n (cells gain₁ n - r .fall))) (cells (r .holder)) i) (ap suc root-is ∙ sym (add-one n))
         (all-settled at-root exhausted (d .most) a
         (rw root-is (getD-set-same gain₁ n (cells gain₁ n - r .fall) 0 (omega (arith, s .near))))
         (λ i ne. getD-set-other gain₁ n i (cells gain₁ n - r .fall) 0 (λ e. ne (e ∙ sym root-is)))

@@ -1,8 +1,9 @@
 -- The laws that the functions' proofs cite, from cells and reached bidders up to what is solved.
 pub mod Cells
-pub mod Reached
+pub mod InTree
 pub mod Growing
 pub mod Visiting
+pub mod Widening
 pub mod Shifting
 pub mod Relaxing
 pub mod Adjusting

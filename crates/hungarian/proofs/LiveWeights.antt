@@ -2,20 +2,20 @@
 use mathlib.Core.Path.{_≡_, refl, sym, ap, _∙_}
 use mathlib.Core.Bool.{Bool, true, false, cond}
 use mathlib.Core.List.{List}
-use mathlib.Core.Logic.{_≢_, _⊎_, inl, inr, ⊎-elim, by-cases}
+use mathlib.Core.Logic.{_≢_, by-cases}
 use Prim.Native.Nat.{ℕ, zero, suc, _+_, _*_, _≤_, _<_}
 use native.Mathlib.Decide.{ℕ-discrete, decLt}
 use native.Mathlib.Omega.{arith}
 use lib.ListN.{length, length-set, getD, set, List·getD-eq-default}
 use lib.Seq.{getD-set-same, getD-set-other}
-use Rattle.auction.specs.declared.board.Auction.{Auction}
-use Rattle.auction.specs.Limits.{maxItems, maxBidders, maxWeight}
-use Rattle.auction.specs.Cells.{rowAt}
-use Rattle.auction.specs.Live.{live}
-use Rattle.auction.specs.Sound.{Sound}
-use Rattle.auction.proofs.Filed.{row-cell}
-use Rattle.auction.proofs.LiveLaws.{weighed-edges}
-use Rattle.hungarian.specs.Weights.{weightAt, Light}
+use Rattle.board.specs.declared.record.Auction.{Auction}
+use Rattle.board.specs.Limits.{maxItems, maxBidders, maxWeight}
+use Rattle.board.specs.Cells.{rowAt}
+use Rattle.board.specs.Live.{live}
+use Rattle.board.specs.Sound.{Sound}
+use Rattle.board.proofs.Filed.{row-cell}
+use Rattle.board.proofs.LiveLaws.{weighed-edges}
+use Rattle.hungarian.specs.Weights.{matrixAt, Light}
 use Rattle.hungarian.specs.LiveWeights.{Cleared, LiveTo}
 
 -- Every cell is that of a bidder and an item
@@ -50,7 +50,7 @@ clear-more item i before after near l long p =
       others = λ j k lk ne. other j k (λ e. ne (omega (arith, e))) ∙ p .others j k lk ne;
     }
   where
-    other : (j k : ℕ) → j * maxItems + k ≢ i * maxItems + item → weightAt (set after (i * maxItems + item) 0) j k ≡ weightAt after j k
+    other : (j k : ℕ) → j * maxItems + k ≢ i * maxItems + item → matrixAt (set after (i * maxItems + item) 0) j k ≡ matrixAt after j k
     other j k ne = getD-set-other after (i * maxItems + item) (j * maxItems + k) 0 0 ne
 
 pub clear-all : (item i : ℕ) (before after : List ℕ) → i ≤ maxBidders → maxBidders ≤ i → Cleared item i before after → Cleared item maxBidders before after
@@ -95,15 +95,15 @@ cond-none : (f : Bool) (x : ℕ) → x ≡ 0 → cond f 0 x ≡ 0
 cond-none true x e = refl
 cond-none false x e = e
 
-module _ (b : Auction) (s : Sound b) (after : List ℕ) (p : LiveTo maxItems (b .weights) (b .withdrawn) after) where
-  pub live-is : (i k : ℕ) → i < maxBidders → k < maxItems → weightAt after i k ≡ live b i k
-  live-is i k li lk = p .live i k li lk ∙ ap (cond (getD (b .withdrawn) k false) 0) (sym (row-cell (b .weights) i k lk))
+module _ (b : Auction) (s : Sound b) (after : List ℕ) (p : LiveTo maxItems (b .weights) (b .market .withdrawn) after) where
+  pub live-is : (i k : ℕ) → i < maxBidders → k < maxItems → matrixAt after i k ≡ live b i k
+  live-is i k li lk = p .live i k li lk ∙ ap (cond (getD (b .market .withdrawn) k false) 0) (sym (row-cell (b .weights) i k lk))
 
   edge-light : (i k : ℕ) → i < maxBidders → k < maxItems → getD (rowAt b i) k 0 ≤ maxWeight
   edge-light i k li lk =
-      by-cases (decLt i (b .arrived))
-      (λ a. by-cases (decLt k (b .items))
-      (λ u. weighed-edges (rowAt b i) (b .items) (s .weights i a) k u)
+      by-cases (decLt i (b .market .arrived))
+      (λ a. by-cases (decLt k (b .market .items))
+      (λ u. weighed-edges (rowAt b i) (b .market .items) (s .weights i a) k u)
       (λ f. omega (arith, s .unused .weight i k a (omega arith) lk)))
       (λ f. omega (arith, s .unused .row i k (omega arith) li lk))
 
@@ -115,11 +115,11 @@ module _ (b : Auction) (s : Sound b) (after : List ℕ) (p : LiveTo maxItems (b 
           let h = cell-of c in
           let li : h .bidder < maxBidders = omega (arith, h .here, h .near) in
           let a = live-is (h .bidder) (h .item) li (h .near) in
-          let d : live b (h .bidder) (h .item) ≤ maxWeight = cond-below (getD (b .withdrawn) (h .item) false) _ _ (edge-light (h .bidder) (h .item) li (h .near)) in
+          let d : live b (h .bidder) (h .item) ≤ maxWeight = cond-below (getD (b .market .withdrawn) (h .item) false) _ _ (edge-light (h .bidder) (h .item) li (h .near)) in
           rw (h .here, a) d
 
       outside : (c < maxBidders * maxItems → ⊥) → getD after c 0 ≤ maxWeight
       outside f = omega (arith, List·getD-eq-default after 0 {n = c} (omega (arith, p .size, s .formed .rows)))
 
-  pub live-unused : (i k : ℕ) → i < b .arrived → b .items ≤ k → k < maxItems → live b i k ≡ 0
-  live-unused i k li u lk = cond-none (getD (b .withdrawn) k false) _ (s .unused .weight i k li u lk)
+  pub live-unused : (i k : ℕ) → i < b .market .arrived → b .market .items ≤ k → k < maxItems → live b i k ≡ 0
+  live-unused i k li u lk = cond-none (getD (b .market .withdrawn) k false) _ (s .unused .weight i k li u lk)

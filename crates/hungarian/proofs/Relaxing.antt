@@ -10,7 +10,7 @@ use borrow.Author.Count.{below-more}
 use lib.ListN.{set, length, length-set}
 use lib.Seq.{getD-set-same, getD-set-other}
 use Rattle.hungarian.specs.declared.tree.Tree.{Tree}
-use Rattle.auction.specs.Limits.{maxItems}
+use Rattle.board.specs.Limits.{maxItems}
 use Rattle.hungarian.specs.Tree.{Visited, Unvisited, visitedAt, excessAt, parentAt}
 use Rattle.hungarian.specs.Reach.{Picks, Lesser, Relaxed, Looked}
 use Rattle.hungarian.proofs.Cells.{never}

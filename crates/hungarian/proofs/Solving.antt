@@ -1,76 +1,44 @@
 -- What is settled, as a matching: its weight is the total of prices and gains.
 use mathlib.Core.Path.{_≡_, refl, sym, ap, _∙_}
 use mathlib.Core.List.{List}
-use mathlib.Core.Logic.{_≢_, by-cases}
-use Prim.Native.Nat.{ℕ, zero, suc, _+_, _≤_, _<_}
-use native.Mathlib.Decide.{ℕ-discrete, decLt}
-use native.Mathlib.Nat.{suc-inj, le-antisymm, one-mul}
+use mathlib.Core.Logic.{by-cases}
+use Prim.Native.Nat.{ℕ, zero, suc, _≤_, _<_}
+use native.Mathlib.Decide.{decLt}
+use native.Mathlib.Nat.{suc-inj, one-mul}
 use native.Mathlib.Omega.{arith}
-use lib.ListN.{set, length, length-set, replicate}
-use lib.Seq.{getD-set-same, getD-set-other}
+use lib.ListN.{getD}
 use Rattle.duality.specs.Lists.{cells}
 use Rattle.duality.specs.Cover.{Tight, total}
 use Rattle.duality.specs.Matching.{IsMatching}
 use Rattle.duality.specs.StrongDuality.{Equal}
 use Rattle.duality.proofs.Tightness.{tightness}
 use Rattle.duality.proofs.GreatestWeight.{greatest-weight}
-use Rattle.auction.specs.Limits.{maxItems, maxBidders}
-use Rattle.hungarian.specs.Settled.{Holds, Once, Settled}
+use Rattle.board.specs.Limits.{maxItems, maxBidders}
+use Rattle.board.specs.Live.{heldBy}
+use Rattle.board.specs.Lent.{Matched}
+use Rattle.board.proofs.LiveLaws.{held-names, held-none}
+use Rattle.hungarian.specs.Settled.{Once, Settled}
 use Rattle.hungarian.specs.Solved.{Turned, Solved, SolvedIsGreatest, SolvedForFewer}
-use Rattle.hungarian.proofs.Cells.{getD-all, earlier}
 
-pub once-among : {holder : ℕ → ℕ} {n m : ℕ} → n ≤ m → Once holder n → Once holder m
-once-among l s = record { known = λ k i h. let (a, b) = s .known k i h in (a, omega arith); once = s .once }
+-- Whoever holds an item is one of so many bidders
+pub once-few : {holder : ℕ → ℕ} {n : ℕ} → n ≤ maxBidders → Once holder n → (k : ℕ) → holder k ≤ maxBidders
+once-few {holder} {n} few once k = go (holder k) refl
+  where
+    go : (c : ℕ) → holder k ≡ c → c ≤ maxBidders
+    go zero e = omega arith
+    go (suc i) e = omega (arith, once .known k i e .1)
 
--- After n items
-pub record Turning (holder : ℕ → ℕ) (matching : List ℕ) (n : ℕ) : Type 0 where
-  pub near : n ≤ maxItems
-  pub long : length matching ≡ maxBidders
-  pub turned : Turned holder (cells matching) n
-
-pub turn-none : (holder : ℕ → ℕ) → Turning holder (replicate maxBidders 0) 0
-turn-none holder =
+-- A matching that is read off the holders, each of whom holds one item
+pub turned-by : (holder matching : List ℕ) {n : ℕ} → Once (cells holder) n → Matched holder maxItems matching → Turned (cells holder) (cells matching) maxItems
+turned-by holder matching once m =
     record {
-      near = omega arith;
-      long = refl;
-      turned = record { placed = λ i k e. absurd (omega (arith, getD-all {A = ℕ} maxBidders i 0)); held = λ k i l. absurd (omega arith) };
+      placed = λ i k e. held-names holder maxItems i k (sym (m i) ∙ e);
+      held = λ k i l h. m i ∙ go i k l h (heldBy holder maxItems i) refl;
     }
-
-module _ {holder : ℕ → ℕ} {matching : List ℕ} {n : ℕ} (once : Once holder maxBidders) (p : Turning holder matching n) (l : n < maxItems) where
-  pub turn-free : holder n ≡ 0 → Turning holder matching (n + 1)
-  turn-free z =
-      record {
-        near = omega arith;
-        long = p .long;
-        turned = record {
-          placed = λ i k e. let (h, q) = p .turned .placed i k e in (omega arith, q);
-          held = λ k i h q. p .turned .held k i (let other : k ≢ n = λ (e : k ≡ n). absurd (let y : Holds holder n i = rw e at q in omega arith) in omega arith) q;
-        };
-      }
-
-  pub turn-held : {i : ℕ} → Holds holder n i → Turning holder (set matching i (n + 1)) (n + 1)
-  turn-held {i} q =
-      record {
-        near = omega arith;
-        long = length-set matching i (n + 1) ∙ p .long;
-        turned = record {
-          placed = λ j k e. by-cases (ℕ-discrete j i)
-              (λ (x : j ≡ i). let y : k ≡ n = omega (arith, sym same ∙ (rw x at e)) in (omega arith, rw (y, x) q))
-              (λ ne. let (h, r) = p .turned .placed j k (sym (other j ne) ∙ e) in (omega arith, r));
-          held = λ k j h r. by-cases (ℕ-discrete j i)
-              (λ (x : j ≡ i). rw (x, once .once k n i (r ∙ ap suc x) q) (same ∙ omega arith))
-              (λ ne. other j ne ∙ p .turned .held k j (earlier holder n i k j q r ne h) r);
-        };
-      }
-    where
-      same : cells (set matching i (n + 1)) i ≡ n + 1
-      same = getD-set-same matching i (n + 1) 0 (omega (arith, p .long, once .known n i q .1))
-
-      other : (j : ℕ) → j ≢ i → cells (set matching i (n + 1)) j ≡ cells matching j
-      other j ne = getD-set-other matching i j (n + 1) 0 ne
-
-pub turn-all : {holder : ℕ → ℕ} {matching : List ℕ} {n : ℕ} → Turning holder matching n → maxItems ≤ n → Turned holder (cells matching) maxItems
-turn-all p all = rw (le-antisymm all (p .near)) (p .turned)
+  where
+    go : (i k : ℕ) → k < maxItems → getD holder k 0 ≡ suc i → (c : ℕ) → heldBy holder maxItems i ≡ c → heldBy holder maxItems i ≡ suc k
+    go i k l h zero e = absurd (held-none holder maxItems i k e l h)
+    go i k l h (suc j) e = e ∙ ap suc (once .once j k i (held-names holder maxItems i j e .1) h)
 
 pub solved : {w : ℕ → ℕ → ℕ} {price gain holder matching : ℕ → ℕ} {n weight : ℕ} → Settled w price gain holder n → Turned holder matching maxItems
     → weight ≡ total n maxItems price gain → Solved n maxItems w matching price gain weight

@@ -10,15 +10,15 @@ use lib.ListN.{set, length}
 use lib.Seq.{getD-set-same, getD-set-other}
 use Rattle.duality.specs.Lists.{cells}
 use Rattle.hungarian.specs.declared.tree.Tree.{Tree}
-use Rattle.auction.specs.Limits.{maxItems, maxBidders}
-use Rattle.hungarian.specs.Weights.{weightAt}
+use Rattle.board.specs.Limits.{maxItems, maxBidders}
+use Rattle.hungarian.specs.Weights.{matrixAt}
 use Rattle.hungarian.specs.Settled.{Holds}
-use Rattle.hungarian.specs.Tree.{Visited, Unvisited, Reached, as-root, as-holder, TightNow, unvisited}
+use Rattle.hungarian.specs.Tree.{Visited, Unvisited, InTree, as-root, as-holder, TightNow, unvisited}
 use Rattle.hungarian.specs.Growth.{Everyone, Balanced}
 use Rattle.hungarian.specs.Path.{Given, Path, released, free, onward}
 use Rattle.hungarian.specs.Search.{BidderStart, ItemStart, Extends, Ended}
 use Rattle.hungarian.proofs.Cells.{never, fewer, new-or-old, old, none-before, price-visited, price-unvisited}
-use Rattle.hungarian.proofs.Reached.{reached-as, still-reached, inside, held-visited, not-reached}
+use Rattle.hungarian.proofs.InTree.{reached-as, still-reached, inside, held-visited, not-reached}
 
 -- The tree with an item marked as visited
 abbrev pub visiting : Tree → ℕ → Tree
@@ -114,7 +114,7 @@ module _ {weights price gain : List ℕ} {parent item : ℕ} {t : Tree} (s : Ite
     on = record { root = refl; visited = λ k v. old (t .visited) item k (omega (arith, s .near)) v; excess = λ k v. refl }
 
     -- Of the bidders that are reached now all but the holder were reached before
-    was-reached : {i level : ℕ} → i ≢ j → Reached (cells gain) (cells (t .holder)) (visiting t item) i level → Reached (cells gain) (cells (t .holder)) t i level
+    was-reached : {i level : ℕ} → i ≢ j → InTree (cells gain) (cells (t .holder)) (visiting t item) i level → InTree (cells gain) (cells (t .holder)) t i level
     was-reached ne (as-root e f) = as-root e f
     was-reached {i} ne (as-holder k v h f) =
         ⊎-elim
@@ -167,7 +167,7 @@ module _ {weights price gain : List ℕ} {parent item : ℕ} {t : Tree} (s : Ite
           }
 
       -- The edge from the parent is tight still
-      tight-still : TightNow (weightAt weights) (cells price) (cells gain) (cells (t .holder)) v parent item
+      tight-still : TightNow (matrixAt weights) (cells price) (cells gain) (cells (t .holder)) v parent item
       tight-still =
           let q = still-reached far (s .tight .reached) in
           let seen = d .extends .visited item here in

@@ -8,13 +8,12 @@ use Rattle.duality.specs.Lists.{cells, sum}
 use Rattle.duality.specs.Matching.{IsMatching, weightOf}
 use Rattle.duality.specs.Cover.{Covers, total}
 use Rattle.duality.specs.EqualExactlyWhenBest.{BestLists}
-use Rattle.auction.specs.declared.board.Auction.{Auction}
-use Rattle.auction.specs.declared.refusal.Refusal.{Refusal}
-use Rattle.auction.specs.declared.refusal.Verdict.{Verdict}
-use Rattle.auction.specs.Live.{live}
-use Rattle.auction.specs.Sound.{Sound}
-use Rattle.auction.specs.Refusals.{firstOf, Demand1}
-use Rattle.auction.specs.Calls.{Lists, Roomy, ReadOutMet}
+use Rattle.board.specs.declared.record.Auction.{Auction}
+use Rattle.refusals.specs.declared.Refusal.{Refusal}
+use Rattle.board.specs.Live.{live}
+use Rattle.board.specs.Sound.{Sound}
+use Rattle.refusals.specs.Demand1.{Demand1}
+use Rattle.board.specs.Lent.{Lists, Roomy, ReadOutMet}
 use Rattle.hungarian.specs.declared.exact.Greatest.{Greatest}
 use Rattle.hungarian.specs.Exact.{exactChecks, exactOf, greatestOn, Shows}
 
@@ -23,9 +22,9 @@ use Rattle.hungarian.specs.Exact.{exactChecks, exactOf, greatestOn, Show
 abbrev pub EqualExactlyWhenBestOn : Auction → Type 0
 EqualExactlyWhenBestOn b =
     (plan prices gains : List ℕ) →
-    length plan ≡ b .arrived → length prices ≡ b .items → length gains ≡ b .arrived →
-    IsMatching (b .arrived) (b .items) (live b) (cells plan) → Covers (b .arrived) (b .items) (live b) 1 (cells prices) (cells gains) →
-    (weightOf (b .arrived) (live b) (cells plan) ≡ sum prices + sum gains) ↔ BestLists (b .arrived) (b .items) (live b) plan prices gains
+    length plan ≡ b .market .arrived → length prices ≡ b .market .items → length gains ≡ b .market .arrived →
+    IsMatching (b .market .arrived) (b .market .items) (live b) (cells plan) → Covers (b .market .arrived) (b .market .items) (live b) 1 (cells prices) (cells gains) →
+    (weightOf (b .market .arrived) (live b) (cells plan) ≡ sum prices + sum gains) ↔ BestLists (b .market .arrived) (b .market .items) (live b) plan prices gains
 
 -- "One statement, for plans we did not make". Of the exact level's outcome only soundness and the three lengths are asked, never that it serves
 pub record Demand3 (b : Auction) (before : Lists) (answer : Greatest) (after : Lists) : Type 0 where
@@ -49,10 +48,10 @@ ExactDemand1 =
 
 -- The pair that the exact level leaves is such a pair: both totals are the answer, no matching weighs more and no cover totals less
 pub record ShowsBest (b : Auction) (after : Lists) : Type 0 where
-  pub weight : weightOf (b .arrived) (live b) (cells (after .plan)) ≡ greatestOn b
-  pub sum : total (b .arrived) (b .items) (cells (after .prices)) (cells (after .gains)) ≡ greatestOn b
-  pub greatest : (other : ℕ → ℕ) → IsMatching (b .arrived) (b .items) (live b) other → weightOf (b .arrived) (live b) other ≤ greatestOn b
-  pub least : (y x : ℕ → ℕ) → Covers (b .arrived) (b .items) (live b) 1 y x → greatestOn b ≤ total (b .arrived) (b .items) y x
+  pub weight : weightOf (b .market .arrived) (live b) (cells (after .plan)) ≡ greatestOn b
+  pub sum : total (b .market .arrived) (b .market .items) (cells (after .prices)) (cells (after .gains)) ≡ greatestOn b
+  pub greatest : (other : ℕ → ℕ) → IsMatching (b .market .arrived) (b .market .items) (live b) other → weightOf (b .market .arrived) (live b) other ≤ greatestOn b
+  pub least : (y x : ℕ → ℕ) → Covers (b .market .arrived) (b .market .items) (live b) 1 y x → greatestOn b ≤ total (b .market .arrived) (b .market .items) y x
 
 abbrev pub ExactIsBest : Type 0
 ExactIsBest = (b : Auction) (before after : Lists) (answer : Greatest) → Shows b before answer after → ShowsBest b after

@@ -7,13 +7,12 @@ use lib.ListN.{length}
 use Rattle.duality.specs.Lists.{cells}
 use Rattle.duality.specs.Greatest.{greatestWeight}
 use Rattle.duality.specs.StrongDuality.{Equal}
-use Rattle.auction.specs.declared.board.Auction.{Auction}
-use Rattle.auction.specs.declared.refusal.Refusal.{Refusal}
-use Rattle.auction.specs.declared.refusal.Verdict.{Verdict}
-use Rattle.auction.specs.Cells.{pence, withdrawnAt}
-use Rattle.auction.specs.Live.{live}
-use Rattle.auction.specs.Refusals.{Check, firstOf}
-use Rattle.auction.specs.Calls.{Lists, readOutChecks}
+use Rattle.board.specs.declared.record.Auction.{Auction}
+use Rattle.refusals.specs.declared.Verdict.{Verdict}
+use Rattle.board.specs.Cells.{pence, withdrawnAt}
+use Rattle.board.specs.Live.{live}
+use Rattle.refusals.specs.Demand1.{Check, firstOf}
+use Rattle.board.specs.Lent.{Lists, readOutChecks}
 use Rattle.hungarian.specs.declared.exact.Greatest.{Greatest}
 
 -- "Read-out and exact 13, 8"
@@ -22,7 +21,7 @@ exactChecks = readOutChecks
 
 -- "and returns that worth": of any matching on the live edges, the greatest weight, as a plain count
 abbrev pub greatestOn : Auction → ℕ
-greatestOn b = greatestWeight (b .arrived) (b .items) (live b)
+greatestOn b = greatestWeight (b .market .arrived) (b .market .items) (live b)
 
 unfoldable pub exactBy : Auction → Verdict → Greatest
 exactBy b Verdict.Served = Greatest.Weight (pence (greatestOn b))
@@ -40,8 +39,8 @@ pub record KeptFrom (n : ℕ) (before after : List ℕ) : Type 0 where
 -- "a plan of greatest worth and whole-penny prices and gains that cover the live sheet, sums equal, withdrawn kettles at 0"
 pub record Shows (b : Auction) (before : Lists) (answer : Greatest) (after : Lists) : Type 0 where
   pub answers : answer ≡ Greatest.Weight (pence (greatestOn b))
-  pub equal : Equal (b .arrived) (b .items) (live b) (cells (after .plan)) (cells (after .prices)) (cells (after .gains))
-  pub withdrawn : (k : ℕ) → k < b .items → withdrawnAt b k ≡ true → cells (after .prices) k ≡ 0
-  pub plan : KeptFrom (b .arrived) (before .plan) (after .plan)
-  pub prices : KeptFrom (b .items) (before .prices) (after .prices)
-  pub gains : KeptFrom (b .arrived) (before .gains) (after .gains)
+  pub equal : Equal (b .market .arrived) (b .market .items) (live b) (cells (after .plan)) (cells (after .prices)) (cells (after .gains))
+  pub withdrawn : (k : ℕ) → k < b .market .items → withdrawnAt b k ≡ true → cells (after .prices) k ≡ 0
+  pub plan : KeptFrom (b .market .arrived) (before .plan) (after .plan)
+  pub prices : KeptFrom (b .market .items) (before .prices) (after .prices)
+  pub gains : KeptFrom (b .market .arrived) (before .gains) (after .gains)

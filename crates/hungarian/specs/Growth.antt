@@ -4,10 +4,10 @@ use mathlib.Core.List.{List}
 use mathlib.Core.Logic.{_≢_, _⊎_}
 use Prim.Native.Nat.{ℕ, _+_, _≤_, _<_}
 use Rattle.hungarian.specs.declared.tree.Tree.{Tree}
-use Rattle.auction.specs.Limits.{maxItems, maxWeight}
+use Rattle.board.specs.Limits.{maxItems, maxWeight}
 use Rattle.hungarian.specs.Limits.{unreached}
 use Rattle.hungarian.specs.Settled.{Holds}
-use Rattle.hungarian.specs.Tree.{Visited, Unvisited, excessAt, parentAt, Reached}
+use Rattle.hungarian.specs.Tree.{Visited, Unvisited, excessAt, parentAt, InTree}
 
 -- The bidders whose edges have been looked at: everyone, or all but the one that was reached last
 abbrev pub Everyone : ℕ → Type 0
@@ -22,21 +22,21 @@ pub record Balanced (w : ℕ → ℕ → ℕ) (price gain holder : ℕ → ℕ) 
   pub held : (k : ℕ) → Visited t k → (i : ℕ) × Holds holder k i
   pub early : (k : ℕ) → Visited t k → excessAt t k ≤ t .fall
   pub late : (k : ℕ) → k < maxItems → Unvisited t k → t .fall ≤ excessAt t k
-  pub deep : (i level : ℕ) → looked i → Reached gain holder t i level → t .fall ≤ level
-  pub covered : (i level k : ℕ) → looked i → Reached gain holder t i level → k < maxItems → w i k + excessAt t k ≤ level + price k
+  pub deep : (i level : ℕ) → looked i → InTree gain holder t i level → t .fall ≤ level
+  pub covered : (i level k : ℕ) → looked i → InTree gain holder t i level → k < maxItems → w i k + excessAt t k ≤ level + price k
 
 -- An item's parent is reached, and the edge from there has just the excess
 pub record Parent (w : ℕ → ℕ → ℕ) (price gain holder : ℕ → ℕ) (t : Tree) (k : ℕ) : Type 0 where
   pub level : ℕ
-  pub reached : Reached gain holder t (parentAt t k) level
+  pub reached : InTree gain holder t (parentAt t k) level
   pub just : w (parentAt t k) k + excessAt t k ≡ level + price k
 
 -- Besides, the excess of each unvisited item is its parent's edge's, if an edge to it was looked at, and the lowest level is that of a reached bidder
 pub record Grown (w : ℕ → ℕ → ℕ) (price gain holder : ℕ → ℕ) (t : Tree) (looked : ℕ → Type 0) : Type 0 where
   pub balanced : Balanced w price gain holder t looked
   pub parent : (k : ℕ) → k < maxItems → Unvisited t k → (unreached ≤ excessAt t k) ⊎ Parent w price gain holder t k
-  pub lowest : Reached gain holder t (t .lowest) (t .low)
-  pub least : (i level : ℕ) → looked i → Reached gain holder t i level → t .low ≤ level
+  pub lowest : InTree gain holder t (t .lowest) (t .low)
+  pub least : (i level : ℕ) → looked i → InTree gain holder t i level → t .low ≤ level
   pub below : t .fall ≤ t .low
   pub most : t .low ≤ maxWeight
 

@@ -2,7 +2,7 @@
 use mathlib.Core.Path.{_≡_}
 use Prim.Native.Nat.{ℕ, _+_, _-_, _≤_, _<_, _^_}
 use Rattle.hungarian.specs.declared.tree.Tree.{Tree}
-use Rattle.auction.specs.Limits.{maxBidders}
+use Rattle.board.specs.Limits.{maxBidders}
 use Rattle.hungarian.specs.Settled.{Holds, Once}
 use Rattle.hungarian.specs.Tree.{Visited, excessAt, priceNow}
 

@@ -2,7 +2,7 @@
 use mathlib.Core.Path.{_≡_}
 use mathlib.Core.Logic.{_≢_}
 use Prim.Native.Nat.{ℕ, _<_}
-use Rattle.auction.specs.Limits.{maxItems}
+use Rattle.board.specs.Limits.{maxItems}
 use Rattle.hungarian.specs.Settled.{Holds}
 
 -- Item k + 1 goes to bidder i + 1, and every other item stays with its holder

@@ -4,7 +4,7 @@ use mathlib.Core.Bool.{Bool, true, false}
 use mathlib.Core.Logic.{_⊎_}
 use Prim.Native.Nat.{ℕ, _+_, _-_, _≤_, _<_, _^_}
 use Rattle.hungarian.specs.declared.tree.Tree.{Tree}
-use Rattle.auction.specs.Limits.{maxItems, maxBidders}
+use Rattle.board.specs.Limits.{maxItems, maxBidders}
 use Rattle.hungarian.specs.Tree.{Unvisited, visitedAt, excessAt, parentAt}
 
 -- The bidder's edges to unvisited items are covered, by numbers that the code can add

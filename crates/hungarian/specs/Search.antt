@@ -4,10 +4,10 @@ use mathlib.Core.List.{List}
 use Prim.Native.Nat.{ℕ, _+_, _≤_, _<_}
 use Rattle.duality.specs.Lists.{cells}
 use Rattle.hungarian.specs.declared.tree.Tree.{Tree}
-use Rattle.auction.specs.Limits.{maxItems, maxBidders, maxWeight}
-use Rattle.hungarian.specs.Weights.{weightAt, Light}
+use Rattle.board.specs.Limits.{maxItems, maxBidders, maxWeight}
+use Rattle.hungarian.specs.Weights.{matrixAt, Light}
 use Rattle.hungarian.specs.Settled.{Settled}
-use Rattle.hungarian.specs.Tree.{Visited, Unvisited, excessAt, Reached, TightNow, IdleNow}
+use Rattle.hungarian.specs.Tree.{Visited, Unvisited, excessAt, InTree, TightNow, IdleNow}
 use Rattle.hungarian.specs.Growth.{Everyone, Others, Balanced, Grown}
 use Rattle.hungarian.specs.Path.{Path}
 
@@ -15,24 +15,24 @@ use Rattle.hungarian.specs.Path.{Path}
 pub record Inserting (weights : List ℕ) (price gain holder : ℕ → ℕ) (root : ℕ) : Type 0 where
   pub light : Light weights
   pub near : root < maxBidders
-  pub settled : Settled (weightAt weights) price gain holder root
-  pub covers : (k : ℕ) → k < maxItems → weightAt weights root k ≤ gain root + price k
+  pub settled : Settled (matrixAt weights) price gain holder root
+  pub covers : (k : ℕ) → k < maxItems → matrixAt weights root k ≤ gain root + price k
   pub low : gain root ≤ maxWeight
 
 -- The bidder was reached just now, and is the only one that was not looked from
 pub record BidderStart (weights price gain : List ℕ) (bidder : ℕ) (t : Tree) : Type 0 where
   pub inserting : Inserting weights (cells price) (cells gain) (cells (t .holder)) (t .root)
-  pub reached : Reached (cells gain) (cells (t .holder)) t bidder (cells gain bidder + t .fall)
-  pub grown : Grown (weightAt weights) (cells price) (cells gain) (cells (t .holder)) t (Others bidder)
+  pub reached : InTree (cells gain) (cells (t .holder)) t bidder (cells gain bidder + t .fall)
+  pub grown : Grown (matrixAt weights) (cells price) (cells gain) (cells (t .holder)) t (Others bidder)
 
 -- The item is unvisited, and the edge from its parent is tight by now
 pub record ItemStart (weights price gain : List ℕ) (parent item : ℕ) (t : Tree) : Type 0 where
   pub inserting : Inserting weights (cells price) (cells gain) (cells (t .holder)) (t .root)
-  pub grown : Grown (weightAt weights) (cells price) (cells gain) (cells (t .holder)) t Everyone
+  pub grown : Grown (matrixAt weights) (cells price) (cells gain) (cells (t .holder)) t Everyone
   pub near : item < maxItems
   pub fresh : Unvisited t item
   pub just : excessAt t item ≡ t .fall
-  pub tight : TightNow (weightAt weights) (cells price) (cells gain) (cells (t .holder)) t parent item
+  pub tight : TightNow (matrixAt weights) (cells price) (cells gain) (cells (t .holder)) t parent item
 
 -- A tree has grown: what was visited is so still, with its excess
 pub record Extends (t r : Tree) : Type 0 where
@@ -44,9 +44,9 @@ pub record Extends (t r : Tree) : Type 0 where
 -- bidder that was reached before; what was visited before has kept its holder
 pub record Ended (weights price gain : List ℕ) (t r : Tree) : Type 0 where
   pub extends : Extends t r
-  pub balanced : Balanced (weightAt weights) (cells price) (cells gain) (cells (t .holder)) r Everyone
+  pub balanced : Balanced (matrixAt weights) (cells price) (cells gain) (cells (t .holder)) r Everyone
   pub most : r .fall ≤ maxWeight
-  pub path : Path (TightNow (weightAt weights) (cells price) (cells gain) (cells (t .holder)) r) (IdleNow (cells gain) (cells (t .holder)) r)
+  pub path : Path (TightNow (matrixAt weights) (cells price) (cells gain) (cells (t .holder)) r) (IdleNow (cells gain) (cells (t .holder)) r)
       (cells (t .holder)) (r .mover) (cells (r .holder))
-  pub start : (level : ℕ) × Reached (cells gain) (cells (t .holder)) t (r .mover) level
+  pub start : (level : ℕ) × InTree (cells gain) (cells (t .holder)) t (r .mover) level
   pub kept : (k : ℕ) → Visited t k → cells (r .holder) k ≡ cells (t .holder) k

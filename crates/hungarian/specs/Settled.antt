@@ -6,8 +6,8 @@ use mathlib.Core.List.{List}
 use Prim.Native.Nat.{ℕ, suc, _+_, _≤_, _<_}
 use Rattle.duality.specs.Lists.{cells}
 use Rattle.hungarian.specs.declared.solver.Assignment.{Assignment}
-use Rattle.auction.specs.Limits.{maxItems, maxWeight}
-use Rattle.hungarian.specs.Weights.{weightAt}
+use Rattle.board.specs.Limits.{maxItems, maxWeight}
+use Rattle.hungarian.specs.Weights.{matrixAt}
 
 -- Bidder i + 1 holds item k + 1
 abbrev pub Holds : (ℕ → ℕ) → ℕ → ℕ → Type 0
@@ -35,4 +35,4 @@ pub record Settled (w : ℕ → ℕ → ℕ) (price gain holder : ℕ → ℕ) (
 
 -- The same of an assignment, over a matrix of weights
 abbrev pub SettledBy : List ℕ → Assignment → ℕ → Type 0
-SettledBy weights a n = Settled (weightAt weights) (cells (a .price)) (cells (a .gain)) (cells (a .holder)) n
+SettledBy weights a n = Settled (matrixAt weights) (cells (a .price)) (cells (a .gain)) (cells (a .holder)) n

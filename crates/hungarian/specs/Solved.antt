@@ -1,10 +1,15 @@
 -- What the solver answers.
 use mathlib.Core.Path.{_≡_}
+use mathlib.Core.List.{List}
 use Prim.Native.Nat.{ℕ, suc, _≤_, _<_}
 use Rattle.duality.specs.Matching.{IsMatching, weightOf}
 use Rattle.duality.specs.Cover.{Covers, Tight, total}
 use Rattle.duality.specs.Greatest.{greatestWeight}
 use Rattle.duality.specs.StrongDuality.{Equal}
+use Rattle.duality.specs.Lists.{cells}
+use Rattle.board.specs.declared.lent.Columns.{Columns}
+use Rattle.board.specs.Limits.{maxItems}
+use Rattle.hungarian.specs.Weights.{matrixAt}
 use Rattle.hungarian.specs.Settled.{Holds}
 
 -- The matching that the holders of the first n items are in
@@ -20,6 +25,10 @@ pub record Solved (n m : ℕ) (w : ℕ → ℕ → ℕ) (matching price gain : �
   pub tight : Tight n m w 1 matching price gain
   pub weighs : weight ≡ weightOf n w matching
   pub totals : weight ≡ total n m price gain
+
+-- The same of what the solver answers, over a matrix of weights
+abbrev pub SolvedBy : ℕ → List ℕ → Columns → ℕ → Type 0
+SolvedBy n weights c weight = Solved n maxItems (matrixAt weights) (cells (c .plan)) (cells (c .prices)) (cells (c .gains)) weight
 
 -- The totals are equal, so no matching weighs more and no cover totals less; the weight is the greatest, by the plain count; and an item to which no
 -- bidder has an edge, as one that is withdrawn, has price 0

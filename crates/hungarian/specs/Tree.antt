@@ -33,9 +33,9 @@ parentAt t k = cells (t .parent) k
 
 -- Bidder i + 1 is in the tree, as its root or as who holds a visited item. Its level is its gain by now and the fall so far: as the one falls the
 -- other grows, so the level stays what it was when the bidder was reached
-pub data Reached (gain holder : ℕ → ℕ) (t : Tree) (i level : ℕ) : Type 0 where
-  as-root : i ≡ t .root → level ≡ gain i → Reached gain holder t i level
-  as-holder : (k : ℕ) → Visited t k → Holds holder k i → level ≡ gain i + excessAt t k → Reached gain holder t i level
+pub data InTree (gain holder : ℕ → ℕ) (t : Tree) (i level : ℕ) : Type 0 where
+  as-root : i ≡ t .root → level ≡ gain i → InTree gain holder t i level
+  as-holder : (k : ℕ) → Visited t k → Holds holder k i → level ≡ gain i + excessAt t k → InTree gain holder t i level
 
 -- An item's price by now: since its visit it has risen by as much as the fall has grown
 abbrev pub priceNow : (ℕ → ℕ) → Tree → ℕ → ℕ
@@ -44,10 +44,10 @@ priceNow price t k = cond (visitedAt t k) (price k + (t .fall - excessAt t k)) (
 -- The edge from a reached bidder is tight by now: gain plus price equals weight
 pub record TightNow (w : ℕ → ℕ → ℕ) (price gain holder : ℕ → ℕ) (t : Tree) (i k : ℕ) : Type 0 where
   pub level : ℕ
-  pub reached : Reached gain holder t i level
+  pub reached : InTree gain holder t i level
   pub edge : 0 < w i k
   pub even : level - t .fall + priceNow price t k ≡ w i k
 
 -- A reached bidder has gain 0 by now
 abbrev pub IdleNow : (ℕ → ℕ) → (ℕ → ℕ) → Tree → ℕ → Type 0
-IdleNow gain holder t i = Reached gain holder t i (t .fall)
+IdleNow gain holder t i = InTree gain holder t i (t .fall)

@@ -2,11 +2,11 @@
 use mathlib.Core.List.{List}
 use Prim.Native.Nat.{ℕ, _+_, _*_, _≤_}
 use lib.ListN.{getD}
-use Rattle.auction.specs.Limits.{maxItems, maxWeight}
+use Rattle.board.specs.Limits.{maxItems, maxWeight}
 
 -- The weight of the edge that joins bidder i + 1 to item k + 1, and 0 where there is no edge
-abbrev pub weightAt : List ℕ → ℕ → ℕ → ℕ
-weightAt weights i k = getD weights (i * maxItems + k) 0
+abbrev pub matrixAt : List ℕ → ℕ → ℕ → ℕ
+matrixAt weights i k = getD weights (i * maxItems + k) 0
 
 -- No weight is above the limit
 abbrev pub Light : List ℕ → Type 0

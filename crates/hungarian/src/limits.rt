@@ -1,5 +1,5 @@
-// The limits of the solver are the board's. specs/Limits.antt has the same numbers.
-use auction::board::Auction;
+// The limits of the solver are the board's.
+use board::record::Auction;
 
 pub(crate) const ITEMS: usize = Auction::MAX_ITEMS;
 

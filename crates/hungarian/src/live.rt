@@ -5,7 +5,7 @@ use crate::limits::WEIGHTS;
 ghost use mathlib.Core.Path.{_≡_};
 ghost use Prim.Native.Nat.{_*_, _<_};
 ghost use lib.ListN.{length};
-ghost use Rattle.auction.specs.Limits.{maxItems, maxBidders};
+ghost use Rattle.board.specs.Limits.{maxItems, maxBidders};
 ghost use Rattle.hungarian.specs.LiveWeights.{Cleared, LiveTo};
 
 // No bidder has an edge at the item.

@@ -6,16 +6,19 @@ use crate::limits::WEIGHTS;
 use crate::search::bidder_step;
 use crate::tree::Tree;
 use crate::tree::rooted;
+use board::lent::Columns;
+use board::lent::matching_of;
+use board::lent::sum;
+use board::units::Pence;
 ghost use mathlib.Core.Path.{_≡_};
-ghost use Prim.Native.Nat.{_+_, _*_, _^_, _<_, _≤_};
+ghost use Prim.Native.Nat.{ℕ, _+_, _<_, _≤_};
 ghost use lib.ListN.{length};
 ghost use Rattle.duality.specs.Lists.{cells};
-ghost use Rattle.duality.specs.Sums.{sumTo};
-ghost use Rattle.auction.specs.Limits.{maxItems, maxBidders};
-ghost use Rattle.hungarian.specs.Weights.{weightAt, Light};
-ghost use Rattle.hungarian.specs.Settled.{Once, SettledBy};
+ghost use Rattle.board.specs.Limits.{maxItems, maxBidders, wordLimit};
+ghost use Rattle.hungarian.specs.Weights.{Light};
+ghost use Rattle.hungarian.specs.Settled.{SettledBy};
 ghost use Rattle.hungarian.specs.Insertion.{Adjustable, Adjusted};
-ghost use Rattle.hungarian.specs.Solved.{Turned, Solved};
+ghost use Rattle.hungarian.specs.Solved.{SolvedBy};
 
 // Prices, gains, and the number of the bidder that holds each item, 0 where nobody does.
 pub(crate) struct Assignment {
@@ -80,61 +83,42 @@ fn settle(weights: &[u32; WEIGHTS], n: usize) -> Assignment
     settled
 }
 
-// The matching: for each bidder the number of its item, or 0.
-fn matching_of(holder: [u8; ITEMS]) -> [u32; BIDDERS]
-    requires { ⌜ Once (cells holder) maxBidders ⌝ }
-    ensures { λ r. ⌜ Turned (cells holder) (cells r) maxItems ⌝ }
+// Numbers of 32 bits as the caller's lists have them.
+fn wide(numbers: &[u32]) -> [u64; BIDDERS]
+    requires { ⌜ length (now numbers) ≤ maxBidders ⌝ }
+    ensures { λ r. ⌜ (length r ≡ maxBidders) × (cells r ≡ cells (now (numbers .entry))) × ((i : ℕ) → cells r i < wordLimit) ⌝ }
 {
-    let mut matching = [0u32; BIDDERS];
-    let mut k: usize = 0;
-    while k < ITEMS {
-        let held = holder[k];
-        if held != 0 {
-            matching[held as usize - 1] = (k + 1) as u32;
-        }
-        k += 1;
-    }
-    matching
-}
-
-// The sum of the first n numbers.
-fn sum(numbers: &[u32], n: usize) -> u64
-    requires { ⌜ (n ≤ length (now numbers)) × (n ≤ maxBidders) ⌝ }
-    ensures { λ r. ⌜ (r ≡ sumTo n (cells (now (numbers .entry)))) × (r < 2 ^ 32 * maxBidders) ⌝ }
-{
-    let mut total: u64 = 0;
+    let mut list = [0u64; BIDDERS];
     let mut i: usize = 0;
-    while i < n {
-        total = total + numbers[i] as u64;
+    while i < numbers.len() {
+        list[i] = numbers[i] as u64;
         i += 1;
     }
-    total
+    list
 }
 
-// A matching of greatest weight, prices and gains that cover every edge, and the weight, which is their sum.
+// A matching of greatest weight, prices and gains in pence that cover every edge, and the weight, which is their sum.
 pub(crate) struct Solution {
-    pub price: [u32; ITEMS],
-    pub gain: [u32; BIDDERS],
-    // The number of each bidder's item, 0 where it has none.
-    pub matching: [u32; BIDDERS],
-    pub weight: u64,
+    pub columns: Columns,
+    pub weight: Pence,
 }
 
 // The weight of bidder and item is at bidder * ITEMS + item, 0 where there is no edge; only the first so many bidders count.
 pub(crate) fn solve(weights: &[u32; WEIGHTS], bidders: usize) -> Solution
     requires { ⌜ Light (now weights) × (bidders ≤ maxBidders) ⌝ }
-    ensures { λ r. ⌜ Solved bidders maxItems (weightAt (now (weights .entry))) (cells (r .matching)) (cells (r .price)) (cells (r .gain)) (r .weight) ⌝ }
+    ensures { λ r. ⌜ SolvedBy bidders (now (weights .entry)) (r .columns) (r .weight .0) ⌝ }
 {
     let settled = settle(weights, bidders);
     let price = settled.price;
     let gain = settled.gain;
     let holder = settled.holder;
-    let matching = matching_of(holder);
-    let weight = sum(&price, ITEMS) + sum(&gain, bidders);
-    Solution {
-        price: price,
-        gain: gain,
-        matching: matching,
-        weight: weight,
-    }
+    let prices = wide(&price);
+    let gains = wide(&gain);
+    let weight = Pence(sum(&prices, ITEMS) + sum(&gains, bidders));
+    let columns = Columns {
+        plan: matching_of(holder, ITEMS),
+        prices,
+        gains,
+    };
+    Solution { columns, weight }
 }

@@ -7,7 +7,7 @@ use crate::limits::MAX_WEIGHT;
 use crate::limits::UNREACHED;
 use crate::limits::WEIGHTS;
 ghost use Rattle.duality.specs.Lists.{cells};
-ghost use Rattle.hungarian.specs.Weights.{weightAt};
+ghost use Rattle.hungarian.specs.Weights.{matrixAt};
 ghost use Rattle.hungarian.specs.Growth.{Sprout};
 ghost use Rattle.hungarian.specs.Reach.{Fits, Picks, Looked};
 
@@ -89,8 +89,8 @@ pub(crate) fn reach(
     bidder: usize,
     level: u32,
 ) -> Tree
-    requires { ⌜ Fits (weightAt (now weights)) (cells (now price)) bidder level tree ⌝ }
-    ensures { λ r. ⌜ Looked (weightAt (now (weights .entry))) (cells (now (price .entry))) bidder level tree r ⌝ }
+    requires { ⌜ Fits (matrixAt (now weights)) (cells (now price)) bidder level tree ⌝ }
+    ensures { λ r. ⌜ Looked (matrixAt (now (weights .entry))) (cells (now (price .entry))) bidder level tree r ⌝ }
 {
     let mut t = tree;
     let lowest = lesser_bidder(level, t.low, bidder as u8, t.lowest);

@@ -1,5 +1,5 @@
 // The sheet program: a history text from standard input, its plan or its refusal to standard output.
-use auction::board::Auction;
+use board::record::Auction;
 use history::planning::MAX_OUTPUT;
 use libc::STDIN_FILENO;
 use libc::STDOUT_FILENO;

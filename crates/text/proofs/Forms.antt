@@ -1,6 +1,6 @@
 -- What is read is of the form, and what is of the form is read. Assumes nothing.
 use mathlib.Core.Path.{_≡_, refl, sym, _∙_, ap}
-use mathlib.Core.Logic.{inl, inr, ⊎-elim}
+use mathlib.Core.Logic.{inl, inr}
 use Prim.Native.Nat.{ℕ, zero, suc, _+_, _*_, _-_, _<_, _≤_}
 use native.Mathlib.Nat.{not-suc-le-zero}
 use native.Mathlib.Omega.{arith}
@@ -13,12 +13,11 @@ use borrow.Author.Tests.{leb-true, le-leb, eq-eqb, ne-eqb, eqb-true, eqb-false}
 use Rattle.text.specs.Bytes.{tab, newline, isDigit, isLetter}
 use Rattle.text.specs.Limits.{maxDigits}
 use Rattle.text.specs.Number.{digits, digitsAt, valueOf, isNumber, numberOf, fieldAt}
-use Rattle.text.specs.Line.{Fields, all, bad, prepend, follow, fieldsFrom, fieldsAt, lineWith, lineAt, Ahead, LineRead}
+use Rattle.text.specs.Line.{Fields, all, bad, prepend, follow, fieldsFrom, fieldsAt, lineWith, lineAt}
 use Rattle.text.specs.Print.{decimal}
 use Rattle.text.specs.Form.{FieldsAt, closed, field, NumberSound, NumberComplete, LineOrBad, LineSound, LineComplete, LineAhead}
 use Rattle.text.specs.declared.scan.Field.{Field}
 use Rattle.text.specs.declared.scan.Field.the-variants.{Number, Bad}
-use Rattle.text.specs.declared.line.Line.{Line}
 use Rattle.text.proofs.Decimals.{small, some-digit, first-digit, digits-decimal, value-decimal, decimal-more}
 use Rattle.text.proofs.Lines.{at-newline, at-tab, at-other}
 use Rattle.text.proofs.Numbers.{inside, both, picked, in-range, none-front, some-front, byte-front, none}
@@ -170,13 +169,3 @@ line-sound s at = letters (isLetter (getD s at 0)) refl
     letters : (t : Bool) → isLetter (getD s at 0) ≡ t → LineOrBad s at
     letters true l = fields (fieldsFrom (length s) s (at + 1)) refl l
     letters false l = inl (rw l)
-
--- where the next line starts
-next-ahead : (s : List ℕ) (at : ℕ) → Ahead s at (lineAt s at .next)
-next-ahead s at =
-    ⊎-elim (λ e. inl (ap (λ (l : Line). l .next) e))
-    (λ w. inr (rw (line-complete s at (w .0) (w .1) (w .2)) (line-ahead s at (w .0) (w .1) (w .2))))
-    (line-sound s at)
-
-pub line-read : (s : List ℕ) (at : ℕ) (r : Line) → r ≡ lineAt s at → LineRead s at r
-line-read s at r e = record { is = e; ahead = rw e (next-ahead s at) }

@@ -1,7 +1,5 @@
 -- The line at a position of a text: a letter, and the numbers of its fields. Assumes nothing.
-use mathlib.Core.Path.{_≡_}
-use mathlib.Core.Logic.{_⊎_}
-use Prim.Native.Nat.{ℕ, zero, suc, _+_, _<_, _≤_}
+use Prim.Native.Nat.{ℕ, zero, suc, _+_}
 use mathlib.Core.Bool.{cond}
 use mathlib.Core.List.{List, [], _∷_}
 use lib.ListN.{length, getD, replicate}
@@ -52,12 +50,3 @@ lineWith c bad = badLine
 -- "One record a line": a letter, and its fields
 unfoldable pub lineAt : List ℕ → ℕ → Line
 lineAt s at = cond (isLetter (getD s at 0)) (lineWith (getD s at 0) (fieldsAt s (at + 1))) badLine
-
--- where the next line starts: after this one, in the text; 0 where this one is not of the form
-abbrev pub Ahead : List ℕ → ℕ → ℕ → Type 0
-Ahead s at next = (next ≡ 0) ⊎ ((at < next) × (next ≤ length s))
-
--- a line that was read
-pub record LineRead (s : List ℕ) (at : ℕ) (r : Line) : Type 0 where
-  pub is : r ≡ lineAt s at
-  pub ahead : Ahead s at (r .next)

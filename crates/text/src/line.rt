@@ -1,7 +1,7 @@
 // The line at a position of a text: a letter and its numbers.
 ghost use mathlib.Core.Path.{_≡_};
 ghost use lib.ListN.{set};
-ghost use Rattle.text.specs.Line.{badLine, fieldsAt, lineWith, LineRead};
+ghost use Rattle.text.specs.Line.{badLine, fieldsAt, lineWith, lineAt};
 use crate::NEWLINE;
 use crate::TAB;
 use crate::reader;
@@ -73,7 +73,7 @@ fn fields_at(text: &[u8], at: usize, letter: u8) -> Line
 
 // The line at a position.
 pub fn line_at(text: &[u8], at: usize) -> Line
-    ensures { λ r. ⌜ LineRead (now (text .entry)) at r ⌝ }
+    ensures { λ r. ⌜ r ≡ lineAt (now (text .entry)) at ⌝ }
 {
     let letter = scan::byte_at(text, at);
     if scan::is_within(b'A', b'Z', letter) {

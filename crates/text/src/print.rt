@@ -16,6 +16,12 @@ pub const MAX_AT: usize = 1000000;
 // The most fields of a line that is written.
 pub const LINE_FIELDS: usize = 3;
 
+// The most digits of a number.
+const WIDE_DIGITS: usize = 20;
+
+// The most bytes of a line that is written: a letter, a tab and a number for each field, a newline.
+pub const MAX_LINE: usize = 1 + LINE_FIELDS * (1 + WIDE_DIGITS) + 1;
+
 fn put_byte(out: &mut [u8], at: usize, byte: u8) -> usize
     requires { ⌜ at + 1 < 2 ^ 64 ⌝ }
     ensures { λ r. ⌜ Put (now (out .entry)) (now (out .exit)) at (byte ∷ []) r ⌝ }

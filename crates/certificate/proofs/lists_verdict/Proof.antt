@@ -4,47 +4,61 @@ use mathlib.Core.List.{List, _++_}
 use native.Mathlib.Omega.{arith}
 use lib.ListN.{length}
 use Rattle.duality.specs.Lists.{cells}
-use Rattle.auction.specs.declared.board.Auction.{Auction}
-use Rattle.auction.specs.declared.refusal.Verdict.{Verdict}
-use Rattle.auction.specs.Refusals.{Check, firstOf}
-use Rattle.auction.specs.Calls.{opened}
+use Rattle.refusals.specs.declared.Verdict.{Verdict}
+use Rattle.refusals.specs.Demand1.{Check, firstOf}
+use Rattle.board.specs.Live.{liveOf}
 use Rattle.certificate.specs.Check.{clashChecks, priceChecks, gainChecks, bareChecks, listChecks}
-use Rattle.certificate.specs.Lent.{lent}
 use Rattle.certificate.proofs.Served.{price-served, gain-served}
 use Rattle.certificate.proofs.Outcomes.{stops, passes}
 use borrow.Author.Needs.{needs}
 use Rattle.certificate.proofs.lists_verdict.Statement.{statement}
 use Rattle.certificate.proofs.lists_verdict.Tie as tie
 
--- A board with what the call is lent
-abbrev board : tie.Start → Auction → Auction
-board c b = lent b (length (c .args .plan .now)) (length (c .args .prices .now)) (c .args .withdrawn .now) (c .args .weights .now)
+-- ---- The way back from each list to that before it
 
 abbrev start : tie.After-plan-verdict → tie.Start
 start c = c .before .before .before .before
 
--- Where a list passed, what those after it say is the verdict
-matched : (c : tie.After-enum-told) (b : Auction) {v : Verdict} (rest : List Check) → v ≡ firstOf rest →
-    let plan = start (c .before .before) .args .plan .now in
-    v ≡ firstOf (clashChecks (board (start (c .before .before)) b) (cells plan) 0 (length plan) ++ rest)
-matched c b rest e = passes _ _ _ _ (c .before .before .plan-verdict .ensures (board (start (c .before .before)) b)) (c .enum-told .given .1) e
+abbrev planned : tie.After-prices-verdict → tie.After-plan-verdict
+planned c = c .before .before .before
 
-priced : (c : tie.After-enum-told3) (b : Auction) {v : Verdict} (rest : List Check) → v ≡ firstOf rest →
-    let prices = start (c .before .before .before .before .before) .args .prices .now in
-    v ≡ firstOf (priceChecks (board (start (c .before .before .before .before .before)) b) (cells prices) 0 (length prices) ++ rest)
-priced c b rest e = passes _ _ _ _ (c .before .before .prices-verdict .ensures (board (start (c .before .before .before .before .before)) b)) (c .enum-told3 .given .1) e
+abbrev priced : tie.After-gains-verdict → tie.After-prices-verdict
+priced c = c .before .before .before
+
+abbrev gained : tie.After-cover-verdict → tie.After-gains-verdict
+gained c = c .before .before .before
+
+-- ---- The checks of each list, and what is known where it passed
+
+abbrev clashes : tie.Start → List Check
+clashes c =
+    let a = c .args in
+    clashChecks (length (a .prices .now)) (liveOf (a .withdrawn .now) (a .weights .now)) (cells (a .plan .now)) 0 (length (a .plan .now))
+
+abbrev highs : tie.Start → List Check
+highs c = let a = c .args in priceChecks (a .withdrawn .now) (cells (a .prices .now)) 0 (length (a .prices .now))
+
+plan-passed : (c : tie.After-enum-told) {v : Verdict} (rest : List Check) → v ≡ firstOf rest → v ≡ firstOf (clashes (start (c .before .before)) ++ rest)
+plan-passed c rest e = passes _ _ _ _ (c .before .before .plan-verdict .ensures) (c .enum-told .given .1) e
+
+prices-passed : (c : tie.After-enum-told3) {v : Verdict} (rest : List Check) → v ≡ firstOf rest →
+    v ≡ firstOf (highs (start (planned (c .before .before))) ++ rest)
+prices-passed c rest e = passes _ _ _ _ (c .before .before .prices-verdict .ensures) (c .enum-told3 .given .1) e
 
 -- There are as many gains as cells of the plan
-gained : (c : tie.After-gains-verdict) →
-    let a = start (c .before .before .before .before .before .before) .args in
+gains-verdict : (c : tie.After-gains-verdict) →
+    let a = start (planned (priced c)) .args in
     c .gains-verdict .result ≡ firstOf (gainChecks (length (a .prices .now)) (cells (a .gains .now)) 0 (length (a .plan .now)))
-gained c = rw (start (c .before .before .before .before .before .before) .pre .2) at (c .gains-verdict .ensures)
+gains-verdict c = rw (start (planned (priced c)) .pre .2) at (c .gains-verdict .ensures)
 
-covered : (c : tie.After-cover-verdict) (b : Auction) →
-    let a = start (c .before .before .before .before .before .before .before .before .before) .args in
+cover-verdict : (c : tie.After-cover-verdict) →
+    let a = start (planned (priced (gained c))) .args in
+    let live = liveOf (a .withdrawn .now) (a .weights .now) in
     c .cover-verdict .result ≡
-    firstOf (bareChecks (board (start (c .before .before .before .before .before .before .before .before .before)) b) (a .slack .p) (a .slack .q) (cells (a .prices .now)) (cells (a .gains .now)) 0 (length (a .plan .now)))
-covered c b = rw (start (c .before .before .before .before .before .before .before .before .before) .pre .2) at (c .cover-verdict .ensures (board (start (c .before .before .before .before .before .before .before .before .before)) b))
+    firstOf (bareChecks (length (a .prices .now)) live (a .slack .p) (a .slack .q) (cells (a .prices .now)) (cells (a .gains .now)) 0 (length (a .plan .now)))
+cover-verdict c = rw (start (planned (priced (gained c))) .pre .2) at (c .cover-verdict .ensures)
+
+-- ---- The needs
 
 plan-verdict-requires : tie.Need-plan-verdict-requires
 plan-verdict-requires c κs = search needs
@@ -57,7 +71,7 @@ enum-told-2 c = search needs
 
 returns : tie.Need-returns
 unfolding listChecks
-returns c = λ b. stops _ _ _ _ (c .before .before .plan-verdict .ensures (board (start (c .before .before)) b)) (c .enum-told2 .given .1)
+returns c = stops _ _ _ _ (c .before .before .plan-verdict .ensures) (c .enum-told2 .given .1)
 
 prices-verdict-requires : tie.Need-prices-verdict-requires
 prices-verdict-requires c κs = search needs
@@ -70,8 +84,9 @@ enum-told-4 c = search needs
 
 returns-2 : tie.Need-returns-2
 unfolding listChecks
-returns-2 c = λ b.
-    matched (c .before .before .before) b _ (stops _ _ _ _ (c .before .before .prices-verdict .ensures (board (start (c .before .before .before .before .before)) b)) (c .enum-told4 .given .1))
+returns-2 c =
+    let at = c .before .before in
+    plan-passed (at .before) _ (stops _ _ _ _ (at .prices-verdict .ensures) (c .enum-told4 .given .1))
 
 gains-verdict-requires : tie.Need-gains-verdict-requires
 gains-verdict-requires c κs = search needs
@@ -84,25 +99,27 @@ enum-told-6 c = search needs
 
 returns-3 : tie.Need-returns-3
 unfolding listChecks
-returns-3 c = λ b.
-    matched (c .before .before .before .before .before .before) b _ (priced (c .before .before .before) b _ (stops _ _ _ _ (gained (c .before .before)) (c .enum-told6 .given .1)))
+returns-3 c =
+    let at = c .before .before in
+    plan-passed (priced at .before) _ (prices-passed (at .before) _ (stops _ _ _ _ (gains-verdict at) (c .enum-told6 .given .1)))
 
 cover-verdict-requires : tie.Need-cover-verdict-requires
 cover-verdict-requires c κs =
-    let pre = start (c .before .before .before .before .before .before .before .before) .pre in
-    let any = opened 0 0 0 in (
+    let at = c .before .before in
+    let pre = start (planned (priced at)) .pre in (
       pre .3,
       pre .4,
       omega arith,
       pre .1,
-      λ k h. price-served _ _ _ .0 (sym (c .before .before .before .before .before .prices-verdict .ensures any) ∙ c .before .before .before .enum-told3 .given .1) k h .0,
-      gain-served _ _ _ .0 (sym (c .before .before .gains-verdict .ensures) ∙ c .enum-told5 .given .1),
+      λ k h. price-served _ _ _ .0 (sym (priced at .prices-verdict .ensures) ∙ at .before .enum-told3 .given .1) k h .0,
+      gain-served _ _ _ .0 (sym (at .gains-verdict .ensures) ∙ c .enum-told5 .given .1),
     )
 
 returns-4 : tie.Need-returns-4
 unfolding listChecks
-returns-4 c = λ b.
-    matched (c .before .before .before .before .before .before .before) b _ (priced (c .before .before .before .before) b _ (passes _ _ _ _ (gained (c .before .before .before)) (c .before .enum-told5 .given .1) (covered c b)))
+returns-4 c =
+    let at = gained c in
+    plan-passed (priced at .before) _ (prices-passed (at .before) _ (passes _ _ _ _ (gains-verdict at) (c .before .enum-told5 .given .1) (cover-verdict c)))
 
 pub lists-verdict-spec : {M : Type 1} → statement M
 lists-verdict-spec =

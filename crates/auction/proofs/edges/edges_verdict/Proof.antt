@@ -4,14 +4,11 @@ use Prim.Native.Nat.{_-_, _≤_}
 use native.Mathlib.Omega.{arith}
 use borrow.Author.Needs.{needs}
 use Rattle.duality.specs.Lists.{cells}
-use Rattle.auction.specs.Refusals.{firstOf}
+use Rattle.refusals.specs.Demand1.{firstOf}
 use Rattle.auction.specs.Edges.{edgesChecks}
 use Rattle.auction.proofs.EdgeVerdicts.{edges-start, edges-on, edges-stop, edges-end}
 use Rattle.auction.proofs.edges.edges_verdict.Statement.{statement}
 use Rattle.auction.proofs.edges.edges_verdict.Tie as tie
-use Rattle.auction.proofs.edges.edges_verdict.Reads as reads
-use Rattle.auction.proofs.edges.edges_verdict.Lts as lts
-use Rattle.auction.proofs.edges.edge_verdict.Reads as edge-verdict-reads
 
 abbrev Inv-loop : tie.InvT-loop
 Inv-loop items weights withdrawn known count i₀ i = (i ≤ count) ×
@@ -20,38 +17,30 @@ Inv-loop items weights withdrawn known count i₀ i = (i ≤ count) ×
 abbrev μ-loop : tie.MeasureT-loop
 μ-loop items weights withdrawn known count i₀ i = count - i
 
--- src/edges.rt:70:5
 loop-holds : tie.Need-loop-holds Inv-loop μ-loop
 loop-holds c = (search needs, edges-start _ _ _ _ _)
 
--- src/edges.rt:71:13
 edge-verdict-requires : tie.Need-edge-verdict-requires Inv-loop μ-loop
 edge-verdict-requires c κs = search needs
 
 enum-told : tie.Need-enum-told Inv-loop μ-loop
 enum-told c = search needs
 
--- src/edges.rt:73:13
 enum-told-2 : tie.Need-enum-told-2 Inv-loop μ-loop
 enum-told-2 c = search needs
 
--- src/edges.rt:73:13
 returns : tie.Need-returns Inv-loop μ-loop
 returns c = edges-stop _ _ _ _ _ _ (c .before .before .before .loop-test .taken) _ _ (c .before .before .edge-verdict .ensures) (c .enum-told2 .given .1) ∙ sym (c .before .before .before .before .loop .inv .1)
 
--- src/edges.rt:75:9
 add-i : tie.Need-add-i Inv-loop μ-loop
 add-i c = search needs
 
--- src/edges.rt:70:5
 loop-less : tie.Need-loop-less Inv-loop μ-loop
 loop-less c = search needs
 
--- src/edges.rt:70:5
 loop-again : tie.Need-loop-again Inv-loop μ-loop
 loop-again c = (omega arith, c .before .before .before .before .loop .inv .1 ∙ edges-on _ _ _ _ _ _ (c .before .before .before .loop-test .taken) _ (c .before .before .edge-verdict .ensures) (c .enum-told .given .1))
 
--- src/edges.rt:65:1
 returns-2 : tie.Need-returns-2 Inv-loop μ-loop
 returns-2 c = sym (c .before .loop .inv .1 ∙ edges-end _ _ _ _ _ _ (omega arith))
 

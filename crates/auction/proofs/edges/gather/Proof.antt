@@ -23,20 +23,15 @@ use denote.Index.{place-is, elem-out, elem-back, looks-slice, shuts-slice}
 use denote.Slice.{sliceTy}
 use denote.Struct.Laws as LL
 use borrow.Author.Tests.{lt-ltb, le-ltb}
-use Rattle.walks.proofs.Walks.{refl, sym, _∙_, ℕ, _^_, List, [], _∷_, URA, fullShare, named, w64, Val, vint, SProp, ent, id⊢, Lft, Share, Fml, Routine, Heap}
-use Rattle.walks.proofs.Walks.{WpFn, Atoms, FmC, Fun, givenOf, Given, ‵, raw, _$_, _∵_, !, qed, by, move, let-go, use2, fsplit, fjoin, look, init, stop}
-use Rattle.walks.proofs.Walks.{from, load, of-opd, and-then, no-more, assigns, land, returns, enter, params1, pass1, pass0, free0, RattleType}
-use Rattle.walks.proofs.Walks.{owns, Is, owned, nothing, Triple, Vals, alive, onEntry, cited, Clauses, Memory, uint-tells, RefT}
-use Rattle.walks.proofs.Walks.{uint-makes, uint-lawful, sliceVal, ShrSlice, slice-vals, shr-slice-tells, shr-slice-lawful, shr-slice-copy}
-use Rattle.walks.proofs.Walks.{truly, Walk, leaves, meets, makes-locals, here, loc, dot, gone, told, twice, Ask, calls-plain}
-use Rattle.auction.specs.Limits.{maxEdges}
-use Rattle.auction.specs.Cells.{edge}
+use Rattle.walks.proofs.Walks.{refl, sym, _∙_, ℕ, _^_, List, [], _∷_, URA, fullShare, named, w64, Val, vint, SProp, ent, id⊢, Lft, Share, Fml, Routine, Heap, WpFn, Atoms, FmC, Fun, givenOf, Given, ‵, raw, _$_, _∵_, !, qed, by, move, let-go, use2, fsplit, fjoin, look, init, stop, from, load, of-opd, and-then, no-more, assigns, land, returns, enter, params1, pass1, pass0, free0, RattleType, owns, Is, owned, nothing, Triple, Vals, alive, onEntry, cited, Clauses, Memory, uint-tells, RefT, uint-makes, uint-lawful, sliceVal, ShrSlice, slice-vals, shr-slice-tells, shr-slice-lawful, shr-slice-copy, truly, Walk, leaves, meets, makes-locals, here, loc, dot, gone, told, twice, Ask, calls-plain}
+use Rattle.board.specs.Limits.{maxEdges}
+use Rattle.board.specs.Cells.{edge}
 use Rattle.auction.specs.Edges.{bufferEdges, emptyBuffer, pushed}
-use Rattle.auction.specs.declared.board.Edge.{Edge}
+use Rattle.board.specs.declared.record.Edge.{Edge}
 use Rattle.auction.specs.declared.edges.EdgeBuffer.{EdgeBuffer}
 use Rattle.auction.proofs.Gathered.{Filled, filled-none, filled-more, filled-enough}
-use Rattle.auction.proofs.board.Edge as E
-use Rattle.auction.proofs.board.Edge.Laws as E′
+use Rattle.board.proofs.record.Edge as E
+use Rattle.board.proofs.record.Edge.Laws as E′
 use Rattle.auction.proofs.edges.EdgeBuffer as R
 use Rattle.auction.proofs.edges.EdgeBuffer.Laws as R′
 use Rattle.auction.proofs.edges.enough as enough

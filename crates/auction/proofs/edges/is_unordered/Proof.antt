@@ -5,33 +5,25 @@ use lib.ListN.{getD}
 use borrow.Author.Needs.{needs}
 use Rattle.duality.specs.Lists.{cells}
 use Rattle.duality.proofs.Decide.{false-is, same-test, reword, le-decides}
-use Rattle.auction.proofs.Tests.{order-decides}
+use Rattle.auction.proofs.EdgeTests.{order-decides}
 use Rattle.auction.proofs.edges.is_unordered.Statement.{statement}
 use Rattle.auction.proofs.edges.is_unordered.Tie as tie
-use Rattle.auction.proofs.edges.is_unordered.Reads as reads
-use Rattle.auction.proofs.edges.is_unordered.Lts as lts
 
--- src/edges.rt:36:9
 returns : tie.Need-returns
 returns c = false-is _ (order-decides _ _) (λ h. omega arith)
 
--- src/edges.rt:38:5
 mul-result : tie.Need-mul-result
 mul-result c = search needs
 
--- src/edges.rt:38:5
 element-copy-out-result : tie.Need-element-copy-out-result
 element-copy-out-result c = search needs
 
--- src/edges.rt:38:17
 mul-result-2 : tie.Need-mul-result-2
 mul-result-2 c = search needs
 
--- src/edges.rt:38:17
 element-copy-out-result-2 : tie.Need-element-copy-out-result-2
 element-copy-out-result-2 c = search needs
 
--- src/edges.rt:31:1
 returns-2 : tie.Need-returns-2
 returns-2 c =
     let a = c .before .before .before .args in

@@ -1,5 +1,5 @@
 -- `edges::row_of` meets its contract: so many edges are written.
-use mathlib.Core.Path.{_≡_, refl, sym, ap, _∙_}
+use mathlib.Core.Path.{_≡_, refl}
 use Prim.Native.Nat.{_-_, _≤_}
 use native.Mathlib.Omega.{arith}
 use borrow.Author.Needs.{needs}
@@ -8,8 +8,6 @@ use Rattle.auction.specs.Edges.{rowTo}
 use Rattle.auction.proofs.Rows.{row-start, row-next, row-end}
 use Rattle.auction.proofs.edges.row_of.Statement.{statement}
 use Rattle.auction.proofs.edges.row_of.Tie as tie
-use Rattle.auction.proofs.edges.row_of.Reads as reads
-use Rattle.auction.proofs.edges.row_of.Lts as lts
 
 abbrev Inv-loop : tie.InvT-loop
 Inv-loop items weights count row₀ i₀ row i = (i ≤ count) × (row ≡ rowTo (cells items) (cells weights) i)
@@ -17,55 +15,42 @@ Inv-loop items weights count row₀ i₀ row i = (i ≤ count) × (row ≡ rowTo
 abbrev μ-loop : tie.MeasureT-loop
 μ-loop items weights count row₀ i₀ row i = count - i
 
--- src/edges.rt:99:5
 loop-holds : tie.Need-loop-holds Inv-loop μ-loop
 loop-holds c = (search needs, row-start _ _)
 
--- src/edges.rt:100:18
 mul-k : tie.Need-mul-k Inv-loop μ-loop
 mul-k c = search needs
 
--- src/edges.rt:100:18
 element-copy-out-k : tie.Need-element-copy-out-k Inv-loop μ-loop
 element-copy-out-k c = search needs
 
--- src/edges.rt:100:18
 sub-k : tie.Need-sub-k Inv-loop μ-loop
 sub-k c = let h = c .before .before .before .pre .1 (c .before .before .loop .i) (c .before .loop-test .taken) in search needs
 
--- src/edges.rt:101:18
 mul-row : tie.Need-mul-row Inv-loop μ-loop
 mul-row c = search needs
 
--- src/edges.rt:101:18
 element-copy-out-row : tie.Need-element-copy-out-row Inv-loop μ-loop
 element-copy-out-row c = search needs
 
--- src/edges.rt:101:18
 cast-row : tie.Need-cast-row Inv-loop μ-loop
 cast-row c = let h = c .before .before .before .before .pre .1 (c .before .before .before .loop .i) (c .before .before .loop-test .taken) in search needs
 
--- src/edges.rt:101:9
 mul-row-2 : tie.Need-mul-row-2 Inv-loop μ-loop
 mul-row-2 c = let h = c .before .before .before .before .pre .1 (c .before .before .before .loop .i) (c .before .before .loop-test .taken) in search needs
 
--- src/edges.rt:101:9
 array-write-row : tie.Need-array-write-row Inv-loop μ-loop
 array-write-row c = let h = c .before .before .before .before .pre .1 (c .before .before .before .loop .i) (c .before .before .loop-test .taken) in search needs
 
--- src/edges.rt:102:9
 add-i : tie.Need-add-i Inv-loop μ-loop
 add-i c = search needs
 
--- src/edges.rt:99:5
 loop-less : tie.Need-loop-less Inv-loop μ-loop
 loop-less c = search needs
 
--- src/edges.rt:99:5
 loop-again : tie.Need-loop-again Inv-loop μ-loop
 loop-again c = (omega arith, row-next _ _ _ _ _ _ (c .before .before .before .loop .inv .1) refl refl)
 
--- src/edges.rt:93:1
 returns : tie.Need-returns Inv-loop μ-loop
 returns c = row-end _ _ _ _ _ (omega arith) (c .before .loop .inv .1)
 

@@ -1,16 +1,14 @@
 -- `cover::cover_verdict` meets its contract: what is left to test says the same as all.
 use mathlib.Core.Path.{sym, _∙_}
-use Prim.Native.Nat.{suc, _+_, _-_, _*_}
+use Prim.Native.Nat.{suc, _-_}
 use native.Mathlib.Numerals.{add-one}
 use native.Mathlib.Omega.{arith}
 use borrow.Author.Tests.{not-true, not-false}
 use lib.ListN.{length}
-use lib.Dec.{leb}
-use Rattle.duality.specs.Decide.{allBelow}
 use Rattle.duality.specs.Lists.{cells}
-use Rattle.auction.specs.declared.refusal.Refusal.the-variants.{Bare}
-use Rattle.certificate.specs.Check.{rowTest}
-use Rattle.certificate.specs.Lent.{liveOf}
+use Rattle.refusals.specs.declared.Refusal.the-variants.{Bare}
+use Rattle.certificate.specs.Check.{coveredTest}
+use Rattle.board.specs.Live.{liveOf}
 use Rattle.certificate.proofs.Places.{Left, left-all, left-on, left-stops, left-ends, bare-each}
 use borrow.Author.Needs.{needs}
 use Rattle.certificate.proofs.cover.cover_verdict.Statement.{statement}
@@ -20,12 +18,22 @@ abbrev Inv-loop : tie.InvT-loop
 Inv-loop weights withdrawn slack prices gains i₀ i =
     Left
     (λ j. Bare (suc j))
-    (λ j. allBelow (length prices) (λ k. leb ((slack .q - slack .p) * liveOf withdrawn weights j k) (cells gains j + cells prices k)))
+    (λ j. coveredTest (length prices) (liveOf withdrawn weights j) (slack .p) (slack .q) (cells prices) (cells gains j))
     (length gains)
     i
 
 abbrev μ-loop : tie.MeasureT-loop
 μ-loop weights withdrawn slack prices gains i₀ i = length gains - i
+
+-- ---- The way back from each place of the loop
+
+abbrev start : tie.At-loop Inv-loop μ-loop → tie.Start Inv-loop μ-loop
+start c = c .before .before .before
+
+abbrev inside : tie.After-row-covered Inv-loop μ-loop → tie.In-loop Inv-loop μ-loop
+inside c = c .before .before
+
+-- ---- The needs
 
 loop-holds : tie.Need-loop-holds Inv-loop μ-loop
 loop-holds c = left-all
@@ -38,17 +46,18 @@ shared-slice-read-row-covered c = search needs
 
 row-covered-requires : tie.Need-row-covered-requires Inv-loop μ-loop
 row-covered-requires c κs =
-    let pre = c .before .before .before .before .before .pre in
-    (pre .0, pre .1, omega arith, pre .5 (c .before .before .loop .i) (c .before .loop-test .taken), pre .3, pre .4)
+    let at = c .before in
+    let pre = start (at .before) .pre in
+    (pre .0, pre .1, omega arith, pre .5 (at .before .loop .i) (at .loop-test .taken), pre .3, pre .4)
 
 add-t13 : tie.Need-add-t13 Inv-loop μ-loop
 add-t13 c = search needs
 
 returns : tie.Need-returns Inv-loop μ-loop
-unfolding rowTest
-returns c = λ b.
+returns c =
+    let at = inside (c .before) in
     let bare = sym (c .before .row-covered .ensures) ∙ not-true _ (c .if1 .taken) in
-    rw (bare-each, add-one) (left-stops (c .before .before .before .before .loop .inv) (c .before .before .before .loop-test .taken) bare)
+    rw (bare-each, add-one) (left-stops (at .before .loop .inv) (at .loop-test .taken) bare)
 
 add-i : tie.Need-add-i Inv-loop μ-loop
 add-i c = search needs
@@ -58,11 +67,11 @@ loop-less c = search needs
 
 loop-again : tie.Need-loop-again Inv-loop μ-loop
 loop-again c =
-    left-on (c .before .before .before .before .loop .inv) (c .before .before .before .loop-test .taken) (sym (c .before .row-covered .ensures) ∙ not-false _ (c .if1 .left))
+    let at = inside (c .before) in
+    left-on (at .before .loop .inv) (at .loop-test .taken) (sym (c .before .row-covered .ensures) ∙ not-false _ (c .if1 .left))
 
 returns-2 : tie.Need-returns-2 Inv-loop μ-loop
-unfolding rowTest
-returns-2 c = λ b. rw bare-each (left-ends (c .before .loop .inv) (c .loop-test .left))
+returns-2 c = rw bare-each (left-ends (c .before .loop .inv) (c .loop-test .left))
 
 pub cover-verdict-spec : {M : Type 1} → statement M
 cover-verdict-spec =

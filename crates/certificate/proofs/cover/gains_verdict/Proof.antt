@@ -6,8 +6,8 @@ use borrow.Author.Tests.{le-leb, lt-leb}
 use lib.ListN.{length}
 use lib.Dec.{leb}
 use Rattle.duality.specs.Lists.{cells}
-use Rattle.auction.specs.declared.refusal.Refusal.the-variants.{Price}
-use Rattle.auction.specs.Limits.{maxPrice}
+use Rattle.refusals.specs.declared.Refusal.the-variants.{Price}
+use Rattle.board.specs.Limits.{maxPrice}
 use Rattle.certificate.proofs.Places.{Left, left-all, left-on, left-stops, left-ends, gain-each}
 use Rattle.certificate.proofs.cover.gains_verdict.Statement.{statement}
 use Rattle.certificate.proofs.cover.gains_verdict.Tie as tie

@@ -1,7 +1,7 @@
 -- `cover::price_holds` meets its contract, by what the test decides.
 use native.Mathlib.Omega.{arith}
 use Rattle.duality.proofs.Decide.{same-test, reword, eq-decides, le-decides, clash}
-use Rattle.auction.specs.Limits.{maxPrice}
+use Rattle.board.specs.Limits.{maxPrice}
 use Rattle.certificate.proofs.Tests.{price-decides}
 use Rattle.certificate.proofs.cover.price_holds.Statement.{statement}
 use Rattle.certificate.proofs.cover.price_holds.Tie as tie

@@ -1,14 +1,11 @@
 -- `cover::prices_verdict` meets its contract: what is left to test says the same as all.
-use mathlib.Core.Path.{sym, _∙_}
-use mathlib.Core.Bool.{false, not, _&&_, _||_}
+use mathlib.Core.Path.{_≡_, sym, _∙_}
 use Prim.Native.Nat.{suc, _-_}
 use native.Mathlib.Numerals.{add-one}
 use borrow.Author.Tests.{not-true, not-false}
-use lib.ListN.{length, getD}
-use lib.Dec.{eqb, leb}
+use lib.ListN.{length}
 use Rattle.duality.specs.Lists.{cells}
-use Rattle.auction.specs.declared.refusal.Refusal.the-variants.{Price}
-use Rattle.auction.specs.Limits.{maxPrice}
+use Rattle.refusals.specs.declared.Refusal.the-variants.{Price}
 use Rattle.certificate.specs.Check.{priceTest}
 use Rattle.certificate.proofs.Places.{Left, left-all, left-on, left-stops, left-ends, price-each}
 use borrow.Author.Needs.{needs}
@@ -16,15 +13,27 @@ use Rattle.certificate.proofs.cover.prices_verdict.Statement.{statement
 use Rattle.certificate.proofs.cover.prices_verdict.Tie as tie
 
 abbrev Inv-loop : tie.InvT-loop
-Inv-loop withdrawn prices k₀ k =
-    Left
-    (λ j. Price (suc j))
-    (λ j. leb (cells prices j) maxPrice && (not (getD withdrawn j false) || eqb (cells prices j) 0))
-    (length prices)
-    k
+Inv-loop withdrawn prices k₀ k = Left (λ j. Price (suc j)) (priceTest withdrawn (cells prices)) (length prices) k
 
 abbrev μ-loop : tie.MeasureT-loop
 μ-loop withdrawn prices k₀ k = length prices - k
+
+-- ---- The way back from the test of a price, and what it says
+
+abbrev inside : tie.After-price-holds Inv-loop μ-loop → tie.In-loop Inv-loop μ-loop
+inside c = c .before .before .before
+
+abbrev start : tie.At-loop Inv-loop μ-loop → tie.Start Inv-loop μ-loop
+start c = c .before .before
+
+holds : (c : tie.After-price-holds Inv-loop μ-loop) →
+    let at = inside c .before in
+    let a = start at .args in
+    priceTest (a .withdrawn .now) (cells (a .prices .now)) (at .loop .k) ≡ c .price-holds .result
+unfolding priceTest
+holds c = sym (c .price-holds .ensures)
+
+-- ---- The needs
 
 loop-holds : tie.Need-loop-holds Inv-loop μ-loop
 loop-holds c = left-all
@@ -45,10 +54,9 @@ add-t13 : tie.Need-add-t13 Inv-loop μ-loop
 add-t13 c = search needs
 
 returns : tie.Need-returns Inv-loop μ-loop
-unfolding priceTest
-returns c = λ b.
-    let bad = sym (c .before .price-holds .ensures) ∙ not-true _ (c .if1 .taken) in
-    rw (price-each, add-one) (left-stops (c .before .before .before .before .before .loop .inv) (c .before .before .before .before .loop-test .taken) bad)
+returns c =
+    let at = inside (c .before) in
+    rw (price-each, add-one) (left-stops (at .before .loop .inv) (at .loop-test .taken) (holds (c .before) ∙ not-true _ (c .if1 .taken)))
 
 add-k : tie.Need-add-k Inv-loop μ-loop
 add-k c = search needs
@@ -58,11 +66,11 @@ loop-less c = search needs
 
 loop-again : tie.Need-loop-again Inv-loop μ-loop
 loop-again c =
-    left-on (c .before .before .before .before .before .loop .inv) (c .before .before .before .before .loop-test .taken) (sym (c .before .price-holds .ensures) ∙ not-false _ (c .if1 .left))
+    let at = inside (c .before) in
+    left-on (at .before .loop .inv) (at .loop-test .taken) (holds (c .before) ∙ not-false _ (c .if1 .left))
 
 returns-2 : tie.Need-returns-2 Inv-loop μ-loop
-unfolding priceTest
-returns-2 c = λ b. rw price-each (left-ends (c .before .loop .inv) (c .loop-test .left))
+returns-2 c = rw price-each (left-ends (c .before .loop .inv) (c .loop-test .left))
 
 pub prices-verdict-spec : {M : Type 1} → statement M
 prices-verdict-spec =

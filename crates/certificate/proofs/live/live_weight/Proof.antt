@@ -1,8 +1,8 @@
 -- `live::live_weight` meets its contract: a cell of a row is a cell of the weights.
 use mathlib.Core.Path.{_∙_, sym}
 use native.Mathlib.Omega.{arith}
-use Rattle.auction.proofs.SoundLaw.{live-on}
-use Rattle.auction.proofs.Filed.{row-cell}
+use Rattle.board.proofs.SoundLaw.{live-on}
+use Rattle.board.proofs.Filed.{row-cell}
 use borrow.Author.Needs.{needs}
 use Rattle.certificate.proofs.live.live_weight.Statement.{statement}
 use Rattle.certificate.proofs.live.live_weight.Tie as tie

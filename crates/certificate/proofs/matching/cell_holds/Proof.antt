@@ -5,6 +5,16 @@ use borrow.Author.Needs.{needs}
 use Rattle.certificate.proofs.matching.cell_holds.Statement.{statement}
 use Rattle.certificate.proofs.matching.cell_holds.Tie as tie
 
+-- ---- The way back to what is known of the cell, from where its edge's weight is
+
+abbrev named : tie.After-live-weight → tie.Else1
+named c = c .before .before
+
+abbrev within : tie.After-live-weight → tie.Else2
+within c = c .before
+
+-- ---- The needs
+
 mul-item : tie.Need-mul-item
 mul-item c = search needs
 
@@ -25,15 +35,17 @@ live-weight-requires c κs = search needs
 
 returns-3 : tie.Need-returns-3
 returns-3 c =
-    cell-edgeless _ _ _ _ _ (c .before .before .before .before .if1 .left) (c .before .before .before .if2 .left) (sym (c .before .before .live-weight .ensures .0) ∙ c .if3 .taken)
+    let at = c .before .before in
+    cell-edgeless _ _ _ _ _ (named at .if1 .left) (within at .if2 .left) (sym (at .live-weight .ensures .0) ∙ c .if3 .taken)
 
 is-fresh-requires : tie.Need-is-fresh-requires
 is-fresh-requires c κs = search needs
 
 returns-4 : tie.Need-returns-4
 returns-4 c =
+    let at = c .before .before .before in
     c .is-fresh .ensures ∙
-    cell-fresh _ _ _ _ _ (c .before .before .before .before .before .if1 .left) (c .before .before .before .before .if2 .left) (λ e. c .before .if3 .left (c .before .before .before .live-weight .ensures .0 ∙ e))
+    cell-fresh _ _ _ _ _ (named at .if1 .left) (within at .if2 .left) (λ e. c .before .if3 .left (at .live-weight .ensures .0 ∙ e))
 
 pub cell-holds-spec : {M : Type 1} → statement M
 cell-holds-spec =

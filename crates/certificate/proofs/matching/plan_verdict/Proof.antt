@@ -6,8 +6,8 @@ use borrow.Author.Tests.{not-true, not-false}
 use lib.ListN.{length}
 use Rattle.duality.specs.Lists.{cells}
 use Rattle.duality.specs.Tests.{cellTest}
-use Rattle.auction.specs.declared.refusal.Refusal.the-variants.{Clash}
-use Rattle.certificate.specs.Lent.{liveOf}
+use Rattle.refusals.specs.declared.Refusal.the-variants.{Clash}
+use Rattle.board.specs.Live.{liveOf}
 use Rattle.certificate.proofs.Places.{Left, left-all, left-on, left-stops, left-ends, clash-each}
 use borrow.Author.Needs.{needs}
 use Rattle.certificate.proofs.matching.plan_verdict.Statement.{statement}
@@ -30,7 +30,7 @@ add-t10 : tie.Need-add-t10 Inv-loop μ-loop
 add-t10 c = search needs
 
 returns : tie.Need-returns Inv-loop μ-loop
-returns c = λ b.
+returns c =
     let clashes = sym (c .before .cell-holds .ensures) ∙ not-true _ (c .if1 .taken) in
     rw (clash-each, add-one) (left-stops (c .before .before .before .loop .inv) (c .before .before .loop-test .taken) clashes)
 
@@ -45,7 +45,7 @@ loop-again c =
     left-on (c .before .before .before .loop .inv) (c .before .before .loop-test .taken) (sym (c .before .cell-holds .ensures) ∙ not-false _ (c .if1 .left))
 
 returns-2 : tie.Need-returns-2 Inv-loop μ-loop
-returns-2 c = λ b. rw clash-each (left-ends (c .before .loop .inv) (c .loop-test .left))
+returns-2 c = rw clash-each (left-ends (c .before .loop .inv) (c .loop-test .left))
 
 pub plan-verdict-spec : {M : Type 1} → statement M
 plan-verdict-spec =

@@ -5,14 +5,14 @@ use borrow.Author.Needs.{needs}
 use Rattle.exports.proofs.answers.refusing.Statement.{statement}
 use Rattle.exports.proofs.answers.refusing.Tie as tie
 
-place-of-requires : tie.Need-place-of-requires
-place-of-requires c κs = search needs
+place-requires : tie.Need-place-requires
+place-requires c κs = search needs
 
 stopping-requires : tie.Need-stopping-requires
 stopping-requires c κs = search needs
 
 returns : tie.Need-returns
-returns c = c .stopping .ensures ∙ ap (λ i. stoppedAt (c .before .before .args .refusal) i 0) (c .before .place-of .ensures)
+returns c = c .stopping .ensures ∙ ap (λ i. stoppedAt (c .before .before .args .refusal) i 0) (c .before .place .ensures)
 
 pub refusing-spec : {M : Type 1} → statement M
-refusing-spec = tie.close (tie.spec place-of-requires stopping-requires returns)
+refusing-spec = tie.close (tie.spec place-requires stopping-requires returns)

@@ -5,11 +5,11 @@ use borrow.Author.Needs.{needs}
 use Rattle.exports.proofs.answers.stopping.Statement.{statement}
 use Rattle.exports.proofs.answers.stopping.Tie as tie
 
-number-of-requires : tie.Need-number-of-requires
-number-of-requires c κs = search needs
+number-requires : tie.Need-number-requires
+number-requires c κs = search needs
 
 returns : tie.Need-returns
-returns c = ap (λ n. told n (c .before .args .line) (c .before .args .value)) (c .number-of .ensures)
+returns c = ap (λ n. told n (c .before .args .line) (c .before .args .value)) (c .number .ensures)
 
 pub stopping-spec : {M : Type 1} → statement M
-stopping-spec = tie.close (tie.spec number-of-requires returns)
+stopping-spec = tie.close (tie.spec number-requires returns)

@@ -17,55 +17,45 @@ Inv-loop out₀ plan gains count next₀ i₀ out next i = (i ≤ count) × Put 
 abbrev μ-loop : tie.MeasureT-loop
 μ-loop out₀ plan gains count next₀ i₀ out next i = count - i
 
--- src/output.rt:26:5
 loop-holds : tie.Need-loop-holds Inv-loop μ-loop
 loop-holds c = (omega arith, put-as (no-bidders _ _) (put-none _ _), omega arith)
 
--- src/output.rt:27:43
 add-t11 : tie.Need-add-t11 Inv-loop μ-loop
 add-t11 c = omega arith
 
--- src/output.rt:27:57
 mul-t12 : tie.Need-mul-t12 Inv-loop μ-loop
 mul-t12 c = omega arith
 
--- src/output.rt:27:57
 element-copy-out-t15 : tie.Need-element-copy-out-t15 Inv-loop μ-loop
 element-copy-out-t15 c = omega arith
 
--- src/output.rt:27:66
 mul-t16 : tie.Need-mul-t16 Inv-loop μ-loop
 mul-t16 c = omega arith
 
--- src/output.rt:27:66
 element-copy-out-t19 : tie.Need-element-copy-out-t19 Inv-loop μ-loop
 element-copy-out-t19 c = omega arith
 
--- src/output.rt:27:9
 put-line-requires : tie.Need-put-line-requires Inv-loop μ-loop
 put-line-requires c κs = tt
 
--- src/output.rt:28:9
 add-i : tie.Need-add-i Inv-loop μ-loop
 add-i c = omega arith
 
--- src/output.rt:26:5
 loop-less : tie.Need-loop-less Inv-loop μ-loop
 loop-less c = omega arith
 
--- src/output.rt:26:5
 loop-again : tie.Need-loop-again Inv-loop μ-loop
 loop-again c =
+    let head = c .before .before .before .before .before .before .before in
+    let a = head .before .before .args in
+    let l = head .loop in
     let w = c .before .before .put-line .ensures in
-    let l = c .before .before .before .before .before .before .before .loop in
-    let a = c .before .before .before .before .before .before .before .before .before .args in
-    (omega arith, put-as (bidder-more (cells (a .plan .now)) (cells (a .gains .now)) (l .i)) (put-then (l .inv .1) (line-put (omega (arith, l .inv .2)) w)), omega (arith, l .inv .2, w .short))
+    let line = line-put (omega (arith, l .inv .2)) w in
+    (omega arith, put-as (bidder-more (cells (a .plan .now)) (cells (a .gains .now)) (l .i)) (put-then (l .inv .1) line), omega (arith, l .inv .2, w .short))
 
--- src/output.rt:15:1
 same-length : tie.Need-same-length Inv-loop μ-loop
 same-length c = put-length (c .before .loop .inv .1)
 
--- src/output.rt:15:1
 returns : tie.Need-returns Inv-loop μ-loop
 returns c =
     let a = c .before .before .before .args in

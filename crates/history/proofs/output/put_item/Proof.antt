@@ -6,20 +6,16 @@ use borrow.Author.Needs.{needs}
 use Rattle.history.proofs.output.put_item.Statement.{statement}
 use Rattle.history.proofs.output.put_item.Tie as tie
 
--- src/output.rt:39:9
 returns : tie.Need-returns
 returns c =
     (put-as (item-none _ _ _ (c .if1 .taken)) (put-none _ _), omega arith)
 
--- src/output.rt:41:5
 put-line-requires : tie.Need-put-line-requires
 put-line-requires c κs = search needs
 
--- src/output.rt:34:1
 same-length : tie.Need-same-length
 same-length c = search needs
 
--- src/output.rt:34:1
 returns-2 : tie.Need-returns-2
 returns-2 c =
     let p = c .before .before .put-line .ensures in

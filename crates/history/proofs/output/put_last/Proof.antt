@@ -5,19 +5,15 @@ use borrow.Author.Needs.{needs}
 use Rattle.history.proofs.output.put_last.Statement.{statement}
 use Rattle.history.proofs.output.put_last.Tie as tie
 
--- src/output.rt:76:9
 put-line-requires : tie.Need-put-line-requires
 put-line-requires c κs = search needs
 
--- src/output.rt:77:5
 put-line-requires-2 : tie.Need-put-line-requires-2
 put-line-requires-2 c κs = search needs
 
--- src/output.rt:65:1
 same-length : tie.Need-same-length
 same-length c = search needs
 
--- src/output.rt:65:1
 returns : tie.Need-returns
 returns c =
     let p = c .before .before .before .before .before .before .put-line .ensures in

@@ -1,102 +1,81 @@
--- `planning::render` meets its contract: the lines of what was read, one after the other.
+-- `planning::render` meets its contract: the lines of the board's numbers, one after the other.
 use mathlib.Core.Path.{_≡_, ap, _∙_}
 use Prim.Native.Nat.{ℕ, _+_, _/_}
 use native.Mathlib.Omega.{arith}
-use Rattle.text.proofs.Puts.{put-then, put-as}
-use Rattle.history.specs.Output.{sumOf}
-use Rattle.history.proofs.Boards.{sum-read, sums-fit, weight-from, output-read}
 use borrow.Author.Needs.{needs}
+use Rattle.text.proofs.Puts.{put-then, put-as}
+use Rattle.board.specs.declared.record.Auction.{Auction}
+use Rattle.board.specs.Live.{matchingWeight}
+use Rattle.board.specs.Sound.{Sound}
+use Rattle.board.proofs.Lending.{holders-few}
+use Rattle.history.specs.Output.{sumOf}
+use Rattle.history.proofs.Boards.{sum-read, sum-fits, weight-from, output-read}
 use Rattle.history.proofs.planning.render.Statement.{statement}
 use Rattle.history.proofs.planning.render.Tie as tie
 
--- src/planning.rt:64:9
-read-requires : tie.Need-read-requires
-read-requires c κs = search needs
+-- ---- The way back from each place, and what is known there
 
--- src/planning.rt:72:21
-slice-aggregate-sum : tie.Need-slice-aggregate-sum
-slice-aggregate-sum c = search needs
+abbrev start : tie.After-columns-of → tie.Start
+start c = c .before .before .before .before .before
 
--- src/planning.rt:72:17
-sum-requires : tie.Need-sum-requires
-sum-requires c κs =
-    let s = c .before .before .before .before .before .before .before .before .pre in
-    let r = c .before .before .before .before .before .before .read .ensures in
-    (omega (arith, r .prices-long, s .items), omega (arith, sums-fit (c .before .before .before .before .before .before .before .before .args .auction) s _ _ _ r))
+abbrev board : tie.After-columns-of → Auction
+board c = start c .args .auction
 
--- src/planning.rt:72:43
-slice-aggregate-sum-2 : tie.Need-slice-aggregate-sum-2
-slice-aggregate-sum-2 c = search needs
+sound : (c : tie.After-columns-of) → Sound (board c)
+sound c = start c .pre
 
--- src/planning.rt:72:39
-sum-requires-2 : tie.Need-sum-requires-2
-sum-requires-2 c κs =
-    let s = c .before .before .before .before .before .before .before .before .before .before .pre in
-    let r = c .before .before .before .before .before .before .before .before .read .ensures in
-    (omega (arith, r .gains-long, s .arrived), omega (arith, sums-fit (c .before .before .before .before .before .before .before .before .before .before .args .auction) s _ _ _ r))
+-- The sum, and the weight from it
+total : (c : tie.After-total-of) → c .total-of .result .0 ≡ sumOf (board (c .before))
+total c = let d = c .before in c .total-of .ensures ∙ sum-read (board d) (sound d) _ (d .columns-of .ensures)
 
--- src/planning.rt:72:17
-add-total : tie.Need-add-total
-add-total c = omega (arith, sums-fit (c .before .before .before .before .before .before .before .before .before .before .before .args .auction) (c .before .before .before .before .before .before .before .before .before .before .before .pre) _ _ _ (c .before .before .before .before .before .before .before .before .before .read .ensures), c .before .before .sum .ensures, c .sum2 .ensures)
+weight : (c : tie.After-weight-of) → c .weight-of .result .0 ≡ matchingWeight (board (c .before .before))
+weight c =
+    let d = c .before .before in
+    let slack = board d .market .slack in
+    c .weight-of .ensures ∙ (ap (λ (t : ℕ). t / (slack .q + slack .p)) (total (c .before)) ∙ weight-from (board d) (sound d))
 
--- src/planning.rt:73:27
-add-weight : tie.Need-add-weight
-add-weight c = search needs
+abbrev weighed : tie.After-put-columns → tie.After-weight-of
+weighed c = c .before .before .before
 
--- src/planning.rt:73:18
-div-weight : tie.Need-div-weight
-div-weight c = search needs
+abbrev listed : tie.After-put-columns → tie.After-columns-of
+listed c = weighed c .before .before
 
--- src/planning.rt:74:9
+-- ---- The needs
+
+columns-of-requires : tie.Need-columns-of-requires
+columns-of-requires c κs = let s = c .before .before .before .before .pre in (s .items .1, holders-few s)
+
+total-of-requires : tie.Need-total-of-requires
+total-of-requires c κs =
+    let s = sound c in
+    (s .arrived, omega (arith, s .items .1), sum-fits (board c) s _ (c .columns-of .ensures))
+
+weight-of-requires : tie.Need-weight-of-requires
+weight-of-requires c κs = let s = sound (c .before) .slack in (s .below, s .high)
+
 greatest-requires : tie.Need-greatest-requires
-greatest-requires c κs = search needs
+greatest-requires c κs = sound (c .before .before)
 
--- src/planning.rt:75:9
-put-bidders-requires : tie.Need-put-bidders-requires
-put-bidders-requires c κs = search needs
+put-columns-requires : tie.Need-put-columns-requires
+put-columns-requires c κs = let s = sound (c .before .before .before .before) in (s .arrived, s .items .1)
 
--- src/planning.rt:76:9
-put-items-requires : tie.Need-put-items-requires
-put-items-requires c κs = search needs
-
--- src/planning.rt:77:5
 put-last-requires : tie.Need-put-last-requires
-put-last-requires c κs = search needs
+put-last-requires c κs = c .before .before .before .put-columns .ensures .1
 
--- src/planning.rt:60:1
 same-length : tie.Need-same-length
 same-length c = search needs
 
--- src/planning.rt:60:1
 returns : tie.Need-returns
 returns c =
-    let a = c .before .before .before .before .before .before .before .before .before .before .before .before .before .before .before .before .before .before .before .before .before .before .before .before .before .before .before .before .args in
-    let s = c .before .before .before .before .before .before .before .before .before .before .before .before .before .before .before .before .before .before .before .before .before .before .before .before .before .before .before .before .pre in
-    let r = c .before .before .before .before .before .before .before .before .before .before .before .before .before .before .before .before .before .before .before .before .before .before .before .before .before .before .read .ensures in
-    let x = c .before .before .before .before .before .before .before .before .before .before .before .before .before .before .before .before .before .before .before .sum .ensures in
-    let y = c .before .before .before .before .before .before .before .before .before .before .before .before .before .before .before .before .before .sum2 .ensures in
-    let p = c .before .before .before .before .before .before .before .before .before .before .before .put-bidders .ensures in
-    let q = c .before .before .before .before .before .before .put-items .ensures in
-    let l = c .before .before .put-last .ensures in
-    let e : c .before .before .before .before .before .before .before .before .before .before .before .before .before .before .before .before .before .before .before .sum .result + c .before .before .before .before .before .before .before .before .before .before .before .before .before .before .before .before .before .sum2 .result ≡ sumOf (a .auction) = omega (arith, x, y, sum-read (a .auction) s _ _ _ r) in
-    let f = ap (λ (t : ℕ). t / (a .auction .slack .q + a .auction .slack .p)) e ∙ weight-from (a .auction) s in
-    (put-as (output-read (a .auction) s _ _ _ r _ _ _ (a .bids) e f (c .before .before .before .before .before .before .before .before .before .before .before .before .before .before .before .greatest .ensures)) (put-then (p .0) (put-then (q .0) (l .0))), omega (arith, p .1, q .1, l .1, s .arrived, s .items))
+    let last = c .before .before in
+    let lines = last .before .before .before .before in
+    let d = listed lines in
+    let same = output-read (board d) (sound d) _ (d .columns-of .ensures) _ _ _ _ (weight (weighed lines)) (total (weighed lines .before)) (lines .before .before .greatest .ensures) in
+    let p = lines .put-columns .ensures in
+    let q = last .put-last .ensures in
+    (put-as same (put-then (p .0) (q .0)), omega (arith, p .1, q .1))
 
 pub render-spec : {M : Type 1} → statement M
 render-spec =
     tie.close
-    (tie.spec
-    read-requires
-    slice-aggregate-sum
-    sum-requires
-    slice-aggregate-sum-2
-    sum-requires-2
-    add-total
-    add-weight
-    div-weight
-    greatest-requires
-    put-bidders-requires
-    put-items-requires
-    put-last-requires
-    same-length
-    returns)
+    (tie.spec columns-of-requires total-of-requires weight-of-requires greatest-requires put-columns-requires put-last-requires same-length returns)

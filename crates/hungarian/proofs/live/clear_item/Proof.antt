@@ -1,15 +1,12 @@
 -- `clear_item` meets its contract: bidder by bidder.
-use mathlib.Core.Path.{_≡_}
 use Prim.Native.Nat.{_-_, _≤_}
 use native.Mathlib.Omega.{arith}
 use borrow.Author.Needs.{needs}
-use Rattle.auction.specs.Limits.{maxBidders}
+use Rattle.board.specs.Limits.{maxBidders}
 use Rattle.hungarian.specs.LiveWeights.{Cleared}
 use Rattle.hungarian.proofs.LiveWeights.{clear-none, clear-more, clear-all}
 use Rattle.hungarian.proofs.live.clear_item.Statement.{statement}
 use Rattle.hungarian.proofs.live.clear_item.Tie as tie
-use Rattle.hungarian.proofs.live.clear_item.Reads as reads
-use Rattle.hungarian.proofs.live.clear_item.Lts as lts
 
 abbrev Inv-loop : tie.InvT-loop
 Inv-loop weights₀ item i₀ weights i = (i ≤ maxBidders) × Cleared item i weights₀ weights

@@ -1,17 +1,13 @@
 -- `live_weights` meets its contract: item by item.
-use mathlib.Core.Path.{_≡_}
 use mathlib.Core.Logic.{⊎-elim}
 use Prim.Native.Nat.{_-_, _≤_}
 use native.Mathlib.Omega.{arith}
 use borrow.Author.Needs.{needs}
-use Rattle.auction.specs.Limits.{maxItems}
+use Rattle.board.specs.Limits.{maxItems}
 use Rattle.hungarian.specs.LiveWeights.{LiveTo}
 use Rattle.hungarian.proofs.LiveWeights.{live-none, live-kept, live-cleared, live-all}
 use Rattle.hungarian.proofs.live.live_weights.Statement.{statement}
 use Rattle.hungarian.proofs.live.live_weights.Tie as tie
-use Rattle.hungarian.proofs.live.live_weights.Reads as reads
-use Rattle.hungarian.proofs.live.live_weights.Lts as lts
-use Rattle.hungarian.proofs.live.clear_item.Reads as clear-item-reads
 
 abbrev Inv-loop : tie.InvT-loop
 Inv-loop withdrawn live₀ k₀ live k = (k ≤ maxItems) × LiveTo k live₀ withdrawn live

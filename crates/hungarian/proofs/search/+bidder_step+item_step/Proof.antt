@@ -5,7 +5,7 @@ use native.Mathlib.Omega.{arith}
 use borrow.Author.Needs.{needs}
 use Rattle.hungarian.specs.Tree.{unvisited}
 use Rattle.hungarian.proofs.Cells.{held-by}
-use Rattle.hungarian.proofs.Reached.{all-low}
+use Rattle.hungarian.proofs.InTree.{all-low}
 use Rattle.hungarian.proofs.Growing.{bidder-inside, bidder-fits, item-met, next-near, bidder-released, bidder-onward}
 use Rattle.hungarian.proofs.Visiting.{parent-near, item-taken, fewer-left, holder-met, holder-near, item-shifted, item-passed}
 use borrow.Fn.Kinds.{In}

@@ -5,7 +5,7 @@ use Prim.Native.Nat.{_-_}
 use native.Mathlib.Omega.{arith}
 use borrow.Author.Needs.{needs}
 use Rattle.duality.specs.Lists.{cells}
-use Rattle.auction.specs.Limits.{maxItems}
+use Rattle.board.specs.Limits.{maxItems}
 use Rattle.hungarian.proofs.Adjusting.{Adjusting, adjust-none, adjust-unvisited, room, adjust-visited, adjust-all}
 use Rattle.hungarian.proofs.solver.adjusted.Statement.{statement}
 use Rattle.hungarian.proofs.solver.adjusted.Tie as tie

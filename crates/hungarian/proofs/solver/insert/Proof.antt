@@ -4,8 +4,8 @@ use mathlib.Core.List.{List}
 use Prim.Native.Nat.{ℕ, _+_, _-_}
 use lib.ListN.{set}
 use Rattle.duality.specs.Lists.{cells}
-use Rattle.auction.specs.Limits.{maxBidders}
-use Rattle.hungarian.specs.Weights.{weightAt}
+use Rattle.board.specs.Limits.{maxBidders}
+use Rattle.hungarian.specs.Weights.{matrixAt}
 use Rattle.hungarian.specs.Settled.{Settled}
 use Rattle.hungarian.proofs.Inserting.{entered, first-tree, tree-adjustable, root-room, inserted}
 use borrow.Author.Needs.{needs, length-unmapped}
@@ -65,7 +65,8 @@ returns c =
     let e = entered (a .weights .now) (a .settled .price) (a .settled .gain) (a .settled .holder) (a .bidder) (s .pre .0) (s .pre .1) (search needs) (s .pre .2) in
     let d = c .before .before .adjusted in
     let t = c .before .before .before .bidder-step in
-    subst (λ (h : List ℕ). Settled (weightAt (a .weights .now)) (cells (d .result .price)) (cells (set (d .result .gain) (a .bidder) (cells (d .result .gain) (a .bidder) - t .result .fall))) (cells h) (a .bidder + 1))
+    subst (λ (h : List ℕ). Settled (matrixAt (a .weights .now)) (cells (d .result .price))
+    (cells (set (d .result .gain) (a .bidder) (cells (d .result .gain) (a .bidder) - t .result .fall))) (cells h) (a .bidder + 1))
     (sym (d .ensures .1))
     (inserted e (c .before .before .before .before .rooted .ensures) (t .ensures) (d .result .price) (d .result .gain) (d .ensures .0) (length-unmapped ℕ (d .result .gain) maxBidders (d .ok .1 .1 .1 .0 .1 .0 .1)))
 

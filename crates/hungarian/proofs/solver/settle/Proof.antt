@@ -2,7 +2,7 @@
 use Prim.Native.Nat.{_-_, _≤_}
 use native.Mathlib.Nat.{le-antisymm}
 use native.Mathlib.Omega.{arith}
-use Rattle.hungarian.specs.Weights.{weightAt}
+use Rattle.hungarian.specs.Weights.{matrixAt}
 use Rattle.hungarian.specs.Settled.{SettledBy}
 use Rattle.hungarian.proofs.Inserting.{none-settled}
 use Rattle.hungarian.proofs.solver.settle.Statement.{statement}
@@ -15,7 +15,7 @@ abbrev μ-loop : tie.MeasureT-loop
 μ-loop weights n settled₀ i₀ settled i = n - i
 
 loop-holds : tie.Need-loop-holds Inv-loop μ-loop
-loop-holds c = (omega arith, none-settled (weightAt (c .args .weights .now)))
+loop-holds c = (omega arith, none-settled (matrixAt (c .args .weights .now)))
 
 insert-requires : tie.Need-insert-requires Inv-loop μ-loop
 insert-requires c κs =

@@ -5,14 +5,14 @@ use native.Mathlib.Omega.{arith}
 use borrow.Author.Needs.{needs}
 use borrow.Author.Tests.{not-true, not-false}
 use Rattle.duality.specs.Lists.{cells}
-use Rattle.auction.specs.Limits.{maxItems}
-use Rattle.hungarian.specs.Weights.{weightAt}
+use Rattle.board.specs.Limits.{maxItems}
+use Rattle.hungarian.specs.Weights.{matrixAt}
 use Rattle.hungarian.proofs.Relaxing.{Passing, pass-none, was-unvisited, pass-visited, pass-unvisited, pass-all}
 use Rattle.hungarian.proofs.tree.reach.Statement.{statement}
 use Rattle.hungarian.proofs.tree.reach.Tie as tie
 
 abbrev Inv-loop : tie.InvT-loop
-Inv-loop weights price bidder level t₀ lowest least₀ next₀ k₀ t least next k = Passing (weightAt weights) (cells price) bidder level t₀ t next least k
+Inv-loop weights price bidder level t₀ lowest least₀ next₀ k₀ t least next k = Passing (matrixAt weights) (cells price) bidder level t₀ t next least k
 
 abbrev μ-loop : tie.MeasureT-loop
 μ-loop weights price bidder level t₀ lowest least₀ next₀ k₀ t least next k = maxItems - k

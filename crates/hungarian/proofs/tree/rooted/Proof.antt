@@ -2,7 +2,7 @@
 use mathlib.Core.Path.{refl}
 use mathlib.Core.Bool.{false}
 use lib.ListN.{getD-replicate}
-use Rattle.auction.specs.Limits.{maxItems}
+use Rattle.board.specs.Limits.{maxItems}
 use Rattle.hungarian.specs.Limits.{unreached}
 use Rattle.hungarian.proofs.Cells.{getD-all}
 use Rattle.hungarian.proofs.tree.rooted.Statement.{statement}

@@ -4,7 +4,6 @@ use native.Mathlib.Omega.{arith}
 use mathlib.Core.Bool.{true}
 use borrow.Author.Needs.{needs}
 use Rattle.text.specs.Bytes.{isLetter}
-use Rattle.text.proofs.Forms.{line-read}
 use Rattle.text.proofs.Lines.{lettered, unlettered}
 use Rattle.text.proofs.Numbers.{inside, in-range}
 use Rattle.text.proofs.line.line_at.Statement.{statement}
@@ -32,7 +31,7 @@ fields-at-requires c κs = search needs
 returns : tie.Need-returns
 returns c =
     let b = c .before .before .before in
-    line-read _ _ _ (c .fields-at .ensures ∙ lettered _ _ _ (b .byte-at .ensures) (letter (c .before)))
+    c .fields-at .ensures ∙ lettered _ _ _ (b .byte-at .ensures) (letter (c .before))
 
 bad-line-requires : tie.Need-bad-line-requires
 bad-line-requires c κs = search needs
@@ -40,7 +39,7 @@ bad-line-requires c κs = search needs
 returns-2 : tie.Need-returns-2
 returns-2 c =
     let b = c .before .before .before in
-    line-read _ _ _ (c .bad-line .ensures ∙ unlettered _ _ _ (b .byte-at .ensures) (sym (c .before .before .is-within .ensures) ∙ c .before .if1 .left))
+    c .bad-line .ensures ∙ unlettered _ _ _ (b .byte-at .ensures) (sym (c .before .before .is-within .ensures) ∙ c .before .if1 .left)
 
 pub line-at-spec : {M : Type 1} → statement M
 line-at-spec =

@@ -1,5 +1,5 @@
 -- `reader::after` meets its contract.
-use mathlib.Core.Path.{_≡_, sym, ap}
+use mathlib.Core.Path.{sym, ap}
 use borrow.Author.Needs.{needs}
 use Rattle.text.specs.Reader.{afterOf}
 use Rattle.text.specs.declared.scan.Field.{Field}

@@ -1,5 +1,5 @@
 -- `reader::ended` meets its contract.
-use mathlib.Core.Path.{_≡_, sym, ap}
+use mathlib.Core.Path.{sym, ap}
 use borrow.Author.Needs.{needs}
 use Rattle.text.specs.Reader.{endedAt}
 use Rattle.text.specs.declared.scan.Field.{Field}

@@ -5,12 +5,7 @@ use lib.ListN.{length}
 use Prim.Native.Nat.{_<_}
 use mathlib.Core.Path.{_≡_}
 use denote.Struct.Laws as LL
-use Rattle.walks.proofs.Walks.{refl, ap, _∙_, ℕ, _^_, List, [], _∷_, URA, named, w64, Val, vint, SProp, ent, id⊢, Lft, Share, Routine, Heap}
-use Rattle.walks.proofs.Walks.{Calls, Loops, WpFn, Atoms, FmC, Fun, givenOf, Given, ‵, raw, _$_, _∵_, !, qed, move, let-go, fsplit, fjoin, look, init}
-use Rattle.walks.proofs.Walks.{of-opd, and-then, no-more, assigns, land, returns, enter, params1, pass1, pass0, free0, owns, Is, owned, nothing}
-use Rattle.walks.proofs.Walks.{Triple, Vals, alive, onEntry, cited, Clauses, Memory, uint-vals, uint-tells, uint-makes, u8, usize, RefT, now}
-use Rattle.walks.proofs.Walks.{sliceVal, ShrSlice, slice-vals, shr-slice-tells, shr-slice-lawful, shr-slice-copy, truly, Walk, leaves, meets}
-use Rattle.walks.proofs.Walks.{makes-locals, here, loc, dot, gone, told, twice, Ask, calls, calls-plain}
+use Rattle.walks.proofs.Walks.{refl, ap, _∙_, ℕ, _^_, List, [], _∷_, URA, named, w64, Val, vint, SProp, ent, id⊢, Lft, Share, Routine, Heap, Calls, Loops, WpFn, Atoms, FmC, Fun, givenOf, Given, ‵, raw, _$_, _∵_, !, qed, move, let-go, fsplit, fjoin, look, init, of-opd, and-then, no-more, assigns, land, returns, enter, params1, pass1, pass0, free0, owns, Is, owned, nothing, Triple, Vals, alive, onEntry, cited, Clauses, Memory, uint-vals, uint-tells, uint-makes, u8, usize, RefT, now, sliceVal, ShrSlice, slice-vals, shr-slice-tells, shr-slice-lawful, shr-slice-copy, truly, Walk, leaves, meets, makes-locals, here, loc, dot, gone, told, twice, Ask, calls, calls-plain}
 use Rattle.text.specs.Number.{fieldAt}
 use Rattle.text.specs.Reader.{afterOf, endedAt}
 use Rattle.text.specs.declared.reader.Reader.{Reader}

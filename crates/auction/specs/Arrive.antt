@@ -1,0 +1,60 @@
+-- Arrive: "13, 3, then entry by entry 4, 5, 6, 7".
+use mathlib.Core.Path.{_≡_}
+use mathlib.Core.Bool.{true, not}
+use mathlib.Core.List.{List, _∷_}
+use Prim.Native.Nat.{ℕ, suc, _-_, _≤_}
+use lib.ListN.{length}
+use lib.Dec.{leb}
+use Rattle.board.specs.declared.record.Auction.{Auction}
+use Rattle.board.specs.declared.record.Edge.{Edge}
+use Rattle.refusals.specs.declared.Refusal.{Refusal}
+use Rattle.refusals.specs.declared.Refusal.the-variants.{Full, Unknown, Gone, Worth, Order, Spoilt}
+use Rattle.refusals.specs.declared.Verdict.{Verdict}
+use Rattle.auction.specs.declared.arrive.Arrived.{Arrived}
+use Rattle.auction.specs.declared.arrive.Arrival.{Arrival}
+use Rattle.board.specs.Limits.{maxBidders, maxWeight}
+use Rattle.board.specs.Cells.{withdrawnAt}
+use Rattle.board.specs.Sound.{Sound}
+use Rattle.board.specs.SoundTest.{soundTest}
+use Rattle.bidding.specs.Rule.{AfterChain, Outcome, done, spent}
+use Rattle.auction.specs.Edges.{itemIn, weightIn, edgesChecks, rowTo}
+use Rattle.refusals.specs.Demand1.{Check, checkFor, firstOf}
+use Rattle.board.specs.Ranges.{Within}
+use Rattle.bidding.specs.Moves.{arrivedOf}
+
+pub data ArriveMet (b : Auction) (edges : List Edge) : Refusal → Type 0 where
+  -- "the board handed in is not sound"
+  spoilt : (Sound b → ⊥) → ArriveMet b edges Spoilt
+  -- "128 batches have arrived"
+  full : maxBidders ≤ b .market .arrived → ArriveMet b edges Full
+  -- "kettle not 1 to k"
+  unknown : {i : ℕ} → (Within 1 (b .market .items) (itemIn edges i) → ⊥) → ArriveMet b edges (Unknown (suc i))
+  -- "kettle withdrawn"
+  gone : {i : ℕ} → withdrawnAt b (itemIn edges i - 1) ≡ true → ArriveMet b edges (Gone (suc i))
+  -- "not 1 to 1,000,000"
+  worth : {i : ℕ} → (Within 1 maxWeight (weightIn edges i) → ⊥) → ArriveMet b edges (Worth (suc i))
+  -- "kettle not above the entry before"
+  order : {i : ℕ} → itemIn edges (suc i) ≤ itemIn edges i → ArriveMet b edges (Order (suc (suc i)))
+
+-- The checks after that of soundness, and all
+unfoldable pub arriveRest : Auction → List Edge → List Check
+arriveRest b edges =
+    checkFor Full (leb maxBidders (b .market .arrived)) ∷
+    edgesChecks (b .market .items) (b .market .withdrawn) (itemIn edges) (weightIn edges) 0 (length edges)
+
+abbrev pub arriveChecks : Auction → List Edge → List Check
+arriveChecks b edges = checkFor Spoilt (not (soundTest b)) ∷ arriveRest b edges
+
+abbrev pub arrival : Auction → Arrived → Arrival
+arrival b a = record { auction = b; answer = a }
+
+unfoldable pub arrivalOf : Outcome AfterChain → Outcome Arrival
+arrivalOf spent = spent
+arrivalOf (done s) = done (arrival (s .auction) (Arrived.Bids (s .bids)))
+
+unfoldable pub arriveBy : Auction → List Edge → Verdict → Outcome Arrival
+arriveBy b edges Verdict.Served = arrivalOf (arrivedOf b (rowTo (itemIn edges) (weightIn edges) (length edges)))
+arriveBy b edges (Verdict.Refused r) = done (arrival b (Arrived.Refused r))
+
+unfoldable pub arriveOf : Auction → List Edge → Outcome Arrival
+arriveOf b edges = arriveBy b edges (firstOf (arriveChecks b edges))

@@ -1,0 +1,26 @@
+-- Read out: "13, 8".
+use Rattle.board.specs.declared.record.Auction.{Auction}
+use Rattle.refusals.specs.declared.Verdict.{Verdict}
+use Rattle.auction.specs.declared.read_out.ReadOut.{ReadOut}
+use Rattle.board.specs.Cells.{priceAt, gainAt}
+use Rattle.board.specs.Live.{matchingOf}
+use Rattle.refusals.specs.Demand1.{firstOf}
+use Rattle.board.specs.Lent.{written, Lists, lists, readOutChecks}
+
+pub record ReadOutcome : Type 0 where
+  pub answer : ReadOut
+  pub lists : Lists
+
+abbrev pub outcome : ReadOut → Lists → ReadOutcome
+outcome a l = record { answer = a; lists = l }
+
+unfoldable pub readOutBy : Auction → Lists → Verdict → ReadOutcome
+readOutBy b l Verdict.Served =
+    outcome ReadOut.Written (lists
+    (written (b .market .arrived) (matchingOf b) (l .plan))
+    (written (b .market .items) (priceAt b) (l .prices))
+    (written (b .market .arrived) (gainAt b) (l .gains)))
+readOutBy b l (Verdict.Refused r) = outcome (ReadOut.Refused r) l
+
+unfoldable pub readOutOf : Auction → Lists → ReadOutcome
+readOutOf b l = readOutBy b l (firstOf (readOutChecks b l))

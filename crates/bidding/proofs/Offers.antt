@@ -1,0 +1,55 @@
+-- The best so far, as the code comes to it. u is the utility of the edge that is looked at.
+use mathlib.Core.Path.{_≡_, refl, ap}
+use mathlib.Core.Bool.{Bool, true, false, cond, _&&_}
+use Prim.Native.Nat.{ℕ, _+_, _-_, _*_, _<_, _≤_}
+use native.Mathlib.Numerals.{add-one}
+use native.Mathlib.Omega.{arith}
+use lib.Dec.{ltb}
+use borrow.Author.Tests.{lt-ltb, le-ltb}
+use Rattle.duality.specs.Steps.{utility}
+use Rattle.board.specs.declared.units.Pence.{Pence}
+use Rattle.board.specs.declared.units.Scaled.{Scaled}
+use Rattle.board.specs.Cells.{pence, scaled}
+use Rattle.bidding.specs.declared.rule.BestEdge.{BestEdge}
+use Rattle.bidding.specs.declared.rule.BestEdge.the-variants.{At}
+use Rattle.bidding.specs.Rule.{beats, offerOf, bestOf}
+
+-- An edge whose price is no less than q times its weight is passed over
+pub offer-dear : (p q k w y : ℕ) (best : BestEdge) → q * w ≤ y → best ≡ offerOf p q k w y best
+unfolding offerOf
+offer-dear p q k w y best h = rw (le-ltb (p * w) (utility q w y) (omega arith))
+
+module _ (p q k : ℕ) (w : Pence) (y : ℕ) (u : Scaled) (is : u .0 ≡ utility q (w .0) y) where
+  -- An edge that is not open is passed over
+  pub offer-shut : (best : BestEdge) → u .0 ≤ p * w .0 → best ≡ offerOf p q k (w .0) y best
+  unfolding offerOf
+  offer-shut best h = rw (le-ltb (p * w .0) (utility q (w .0) y) (rw is at h))
+
+  -- So is one whose utility is no more than that of the best
+  pub offer-beaten : (best : BestEdge) → beats (u .0) best ≡ false → best ≡ offerOf p q k (w .0) y best
+  unfolding offerOf
+  offer-beaten best h = go (ltb (p * w .0) (utility q (w .0) y))
+    where
+      same : beats (utility q (w .0) y) best ≡ false
+      same = rw is at h
+
+      go : (t : Bool) → best ≡ cond (t && beats (utility q (w .0) y) best) (At k (pence (w .0)) (scaled (utility q (w .0) y))) best
+      go true = rw same refl
+      go false = refl
+
+  -- An open one of more utility takes the place of the best
+  pub offer-taken : (best : BestEdge) → p * w .0 < u .0 → beats (u .0) best ≡ true → At k w u ≡ offerOf p q k (w .0) y best
+  unfolding offerOf
+  offer-taken best h g =
+      let lead : beats (utility q (w .0) y) best ≡ true = rw is at g in
+      let same : u ≡ scaled (utility q (w .0) y) = ap scaled is in
+      rw (lt-ltb (p * w .0) (utility q (w .0) y) (rw is at h), lead) (ap (At k w) same)
+
+-- One more item
+pub best-next : (p q : ℕ) (w y : ℕ → ℕ) (k v : ℕ) (best new : BestEdge) → best ≡ bestOf p q w y k → v ≡ w k → new ≡ offerOf p q k v (y k) best →
+    new ≡ bestOf p q w y (k + 1)
+unfolding bestOf
+best-next p q w y k v best new e h g = rw add-one (cc)
+
+pub best-end : (p q : ℕ) (w y : ℕ → ℕ) (k n : ℕ) (best : BestEdge) → k ≡ n → best ≡ bestOf p q w y k → best ≡ bestOf p q w y n
+best-end p q w y k n best e h = rw e at h

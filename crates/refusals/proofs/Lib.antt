@@ -1,0 +1,2 @@
+-- Proofs of the statements in specs/, and the laws that the functions' proofs cite.
+pub mod Verdicts

@@ -1,0 +1,4 @@
+-- Proofs of the statements in specs/, and the laws that the functions' proofs cite.
+pub mod ReplayForms
+pub mod ReplayLaws
+pub mod ReplayLines

@@ -1,0 +1,49 @@
+-- `lines::carry_withdrawal` meets its contract.
+use native.Mathlib.Omega.{arith}
+use Rattle.auction.proofs.Histories.{counted}
+use Rattle.replay.specs.Replay.{finished}
+use Rattle.replay.proofs.ReplayLines.{withdrawal-reached, bids-fit, withdrawal-goes, withdrawal-stops}
+use borrow.Author.Needs.{needs}
+use Rattle.replay.proofs.lines.carry_withdrawal.Statement.{statement}
+use Rattle.replay.proofs.lines.carry_withdrawal.Tie as tie
+
+withdraw-in-requires : tie.Need-withdraw-in-requires
+withdraw-in-requires c κs = counted (c .pre .1) .sound
+
+abbrev called : tie.After-known-told → tie.After-withdraw-in
+called c = c .before .before .before .before .before
+
+enum-known-answer : tie.Need-enum-known-answer
+enum-known-answer c = search needs
+
+add-t14 : tie.Need-add-t14
+add-t14 c =
+    let d = called c in
+    let s = d .before in
+    omega (arith, bids-fit (withdrawal-reached (s .args .item) (d .withdraw-in .ensures) (c .before .answer .given .1) (s .pre)))
+
+enum-known-answer-2 : tie.Need-enum-known-answer-2
+enum-known-answer-2 c = search needs
+
+returns : tie.Need-returns
+returns c =
+    let d = called c in
+    let s = d .before in
+    withdrawal-goes finished (s .args .n) (s .args .bids) (d .withdraw-in .ensures) (c .before .answer .given .1)
+
+returns-2 : tie.Need-returns-2
+returns-2 c =
+    let d = c .before .before .before .before .before in
+    let s = d .before in
+    withdrawal-stops finished (s .args .n) (s .args .bids) (d .withdraw-in .ensures) (c .before .answer2 .given .1)
+
+pub carry-withdrawal-spec : {M : Type 1} → statement M
+carry-withdrawal-spec =
+    tie.close
+    (tie.spec
+    withdraw-in-requires
+    enum-known-answer
+    add-t14
+    enum-known-answer-2
+    returns
+    returns-2)

@@ -1,0 +1,84 @@
+-- `replay_lines` meets its contract: the lines from here on say what those from the start say.
+use Prim.Native.Nat.{_+_, _-_, _<_}
+use native.Mathlib.Omega.{arith}
+use lib.ListN.{length}
+use borrow.Author.Needs.{needs}
+use Rattle.board.specs.Cells.{auction}
+use Rattle.replay.proofs.ReplayLines.{Replaying, replaying-starts, replaying-stops, replaying-on, replaying-ends}
+use Rattle.replay.proofs.replay_lines.Statement.{statement}
+use Rattle.replay.proofs.replay_lines.Tie as tie
+
+abbrev Inv-loop : tie.InvT-loop
+Inv-loop text start auction₀ bids₀ at₀ n₀ auction bids at n = Replaying text start auction₀ at n auction bids
+
+abbrev μ-loop : tie.MeasureT-loop
+μ-loop text start auction₀ bids₀ at₀ n₀ auction bids at n = length text - at
+
+-- ---- The way back from where a line was carried out
+
+abbrev start : tie.At-loop Inv-loop μ-loop → tie.Start Inv-loop μ-loop
+start c = c .before .before
+
+abbrev carried : tie.After-settled Inv-loop μ-loop → tie.After-carry-out Inv-loop μ-loop
+carried c = c .before .before
+
+abbrev read : tie.After-settled Inv-loop μ-loop → tie.After-line-at Inv-loop μ-loop
+read c = carried c .before .before .before .before
+
+abbrev head : tie.After-settled Inv-loop μ-loop → tie.At-loop Inv-loop μ-loop
+head c = read c .before .before
+
+loop-holds : tie.Need-loop-holds Inv-loop μ-loop
+loop-holds c =
+    let s = c .before in
+    replaying-starts (s .args .text .now) (s .args .start) _ (s .pre .1) (s .pre .2)
+
+line-at-requires : tie.Need-line-at-requires Inv-loop μ-loop
+line-at-requires c κs = search needs
+
+carry-out-requires : tie.Need-carry-out-requires Inv-loop μ-loop
+carry-out-requires c κs = c .before .before .before .before .before .loop .inv .reached
+
+enum-told : tie.Need-enum-told Inv-loop μ-loop
+enum-told c = search needs
+
+enum-told-2 : tie.Need-enum-told-2 Inv-loop μ-loop
+enum-told-2 c = search needs
+
+-- A line was carried out, and others follow
+onward : (c : tie.After-enum-told Inv-loop μ-loop) →
+    let at = c .before .before in
+    let l = head at in
+    let s = start l in
+    let r = carried at .carry-out in
+    let next = read at .line-at .result .next in
+    (l .loop .at < next) × Replaying (s .args .text .now) (s .args .start) (s .args .t3) next (l .loop .n + 1)
+    (auction (r .result .market) (r .last .1 .0) (r .result .state)) (r .result .bids)
+onward c =
+    let at = c .before .before in
+    replaying-on (head at .loop .inv) (read at .before .loop-test .taken) (read at .line-at .ensures) (carried at .carry-out .ensures) (c .enum-told .given .1)
+
+returns : tie.Need-returns Inv-loop μ-loop
+returns c =
+    let at = c .before .before in
+    replaying-stops (head at .loop .inv) (read at .before .loop-test .taken) (read at .line-at .ensures) (carried at .carry-out .ensures) (c .enum-told2 .given .1)
+
+add-n : tie.Need-add-n Inv-loop μ-loop
+add-n c =
+    let l = head (c .before .before) in
+    let w = l .loop .inv in
+    omega (arith, w .few, w .inside, start l .pre .0)
+
+loop-less : tie.Need-loop-less Inv-loop μ-loop
+loop-less c = let w = onward c in omega (arith, w .0, w .1 .inside)
+
+loop-again : tie.Need-loop-again Inv-loop μ-loop
+loop-again c = onward c .1
+
+returns-2 : tie.Need-returns-2 Inv-loop μ-loop
+returns-2 c = replaying-ends (c .before .loop .inv) (omega arith)
+
+pub replay-lines-spec : {M : Type 1} → statement M
+replay-lines-spec =
+    tie.close
+    (tie.spec Inv-loop μ-loop loop-holds line-at-requires carry-out-requires enum-told enum-told-2 returns add-n loop-less loop-again returns-2)

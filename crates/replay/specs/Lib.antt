@@ -1,0 +1,3 @@
+-- The lines of a history text carried out.
+pub mod Replay
+pub mod ReplayLaws

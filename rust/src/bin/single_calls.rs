@@ -1,0 +1,34 @@
+//! Makes a full board and then each call on it once: what a call costs by itself is read off the symbols
+//! `noughtelm_*` of a run that counts instructions.
+
+use noughtelm_tests::ffi::*;
+use std::hint::black_box;
+
+/// 127 bidders with an edge at each of 64 items, weights to 9,999, slack 1/100.
+fn full_board() -> Auction {
+    let mut board = open(64, 1, 100).board;
+    let mut x: u64 = 1;
+    for _ in 0..MAX_BIDDERS - 1 {
+        let mut edge = |k: usize| {
+            x = x * 16_807 % 2_147_483_647;
+            Edge { item: k as u64 + 1, weight: 1 + x % 9_999 }
+        };
+        let edges: Vec<Edge> = (0..MAX_ITEMS).map(&mut edge).collect();
+        board = arrive(board, &edges).board;
+    }
+    board
+}
+
+fn main() {
+    let board = full_board();
+    let mut plan = [0; MAX_BIDDERS];
+    let mut prices = [0; MAX_ITEMS];
+    let mut gains = [0; MAX_BIDDERS];
+    println!("arrived {}", board.arrived);
+    println!("sound {}", is_sound(black_box(board)));
+    println!("read out {}", read_out(black_box(board), &mut plan, &mut prices, &mut gains).number);
+    println!("withdraw item 0 {}", withdraw(black_box(board), 0).number);
+    // By another symbol than the arrivals above, so that it is counted by itself.
+    let none = EdgeBuffer::new(&[]);
+    println!("arrive without edges {}", arrive_buffer(black_box(board), none).number);
+}
