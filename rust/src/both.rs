@@ -1,7 +1,7 @@
 //! A board on both sides, the proved library's and the model's. Every call is
 //! made on both, and answers, boards and lent lists must be equal.
 
-use crate::ffi::{self, Told, MAX_OUTPUT};
+use crate::ffi::{self, Told};
 use crate::model::auction::*;
 use crate::model::calls::*;
 use crate::model::check::{Claim, Totals};
@@ -284,7 +284,7 @@ impl Both<'_> {
             gain: g[..cells[2] as usize].to_vec(),
             slack: Slack { p: 0, q: 1 },
         };
-        let gone = self.model.withdrawn.iter().zip(&claim.price).filter(|(gone, _)| **gone);
+        let gone = self.model.withdrawn.iter().zip(&claim.price).filter(|(gone, _)| **gone != 0);
         equal("exact, prices of withdrawn items", gone.map(|(_, y)| y).sum::<u64>(), 0)?;
         let answer = self.check(&claim)?;
         equal("exact, its totals", answer, Ok(Totals { weight, sum: weight }))?;
@@ -309,8 +309,7 @@ pub fn page(length: usize) -> Vec<u8> {
     (0..length).map(|i| 0x80 | (i * 37 % 127) as u8).collect()
 }
 
-/// The whole text on both sides: the replay's board and bids, what is printed
-/// and what is left of the page. The refusal, if there is one.
+/// The whole text replayed on both sides: board and bids. The refusal, if there is one.
 pub fn equal_texts(text: &[u8], seen: &mut Tally) -> Same<Option<Refusal>> {
     let expected = replay_as_far(text);
     let after = ffi::replay(text);
@@ -320,13 +319,17 @@ pub fn equal_texts(text: &[u8], seen: &mut Tally) -> Same<Option<Refusal>> {
     equal_boards("replay", &after.board, &reached(&expected))?;
     let number = expected.refusal.map_or(0, |refusal| refusal.number);
     seen.count("replay", number);
-    let printed = sheet(text);
-    let before: [u8; MAX_OUTPUT] = page(MAX_OUTPUT).try_into().expect("as many cells");
-    let mut out = before;
-    let length = ffi::sheet_text(text, &mut out);
-    equal("sheet, the bytes printed", shown(&out[..length]), shown(&printed))?;
-    equal("sheet, the further bytes", &out[length..], &before[length..])?;
     Ok(expected.refusal)
+}
+
+/// What the program prints of a text, in a list of so many cells.
+pub fn equal_sheets(text: &[u8], printed: &[u8], room: usize, seen: &mut Tally) -> Same<()> {
+    let expected = fit(printed, room);
+    seen.note("sheet", &expected);
+    let mut out = page(room);
+    let answer = ffi::sheet_text(text, &mut out);
+    equal("sheet", answer, told(expected))?;
+    equal("sheet, the list", out, page_with(printed, room, expected))
 }
 
 /// The plan in a list of so many cells, on both sides; 8 comes last.

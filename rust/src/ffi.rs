@@ -45,7 +45,8 @@ pub struct Auction {
     pub items: u64,
     pub slack: Slack,
     pub arrived: u64,
-    pub withdrawn: [bool; MAX_ITEMS],
+    /// 1 for an item that is withdrawn, 0 for one that is not.
+    pub withdrawn: [u8; MAX_ITEMS],
     pub price: [Scaled; MAX_ITEMS],
     /// The number of the bidder that holds each item, 0 where nobody does.
     pub holder: [u8; MAX_ITEMS],
@@ -107,7 +108,7 @@ impl Answer {
 }
 
 mod raw {
-    use super::{Answer, Auction, Edge, EdgeBuffer, Told, Totals, MAX_OUTPUT};
+    use super::{Answer, Auction, Edge, EdgeBuffer, Told, Totals};
 
     extern "C" {
         pub fn noughtelm_open(items: u64, p: u64, q: u64) -> Answer;
@@ -156,8 +157,9 @@ mod raw {
         pub fn noughtelm_sheet_text(
             text: *const u8,
             len: usize,
-            out: *mut [u8; MAX_OUTPUT],
-        ) -> usize;
+            out: *mut u8,
+            out_len: usize,
+        ) -> Told;
     }
 }
 
@@ -255,7 +257,7 @@ pub fn refusal_line(number: u64, line: u64, out: &mut [u8]) -> Told {
     unsafe { raw::noughtelm_refusal_line(number, line, out.as_mut_ptr(), out.len()) }
 }
 
-/// Writes what the program prints, and answers how many bytes that is.
-pub fn sheet_text(text: &[u8], out: &mut [u8; MAX_OUTPUT]) -> usize {
-    unsafe { raw::noughtelm_sheet_text(text.as_ptr(), text.len(), out) }
+/// Writes what the program prints, a plan or a refusal; the value is the bytes.
+pub fn sheet_text(text: &[u8], out: &mut [u8]) -> Told {
+    unsafe { raw::noughtelm_sheet_text(text.as_ptr(), text.len(), out.as_mut_ptr(), out.len()) }
 }

@@ -15,7 +15,7 @@ fn weight_at(b: &ffi::Auction, bidder: usize, item: usize) -> u64 {
 fn live_rows(b: &ffi::Auction) -> Vec<[u32; MAX_ITEMS]> {
     let row = |bidder: usize| {
         let mut row = [0; MAX_ITEMS];
-        for item in (0..b.items as usize).filter(|&i| !b.withdrawn[i]) {
+        for item in (0..b.items as usize).filter(|&i| b.withdrawn[i] == 0) {
             row[item] = b.weights[MAX_ITEMS * bidder + item];
         }
         row
@@ -46,7 +46,7 @@ fn share_holds(b: &ffi::Auction) -> Law {
 fn nobody_is_left_out(b: &ffi::Auction) -> Law {
     for bidder in 0..b.arrived as usize {
         let placed = b.holder.contains(&(bidder as u8 + 1));
-        for item in (0..b.items as usize).filter(|&i| !b.withdrawn[i]) {
+        for item in (0..b.items as usize).filter(|&i| b.withdrawn[i] == 0) {
             let free = b.holder[item] == 0 && weight_at(b, bidder, item) != 0;
             let told = || format!("bidder {} unplaced, item {} free", bidder + 1, item + 1);
             require(placed || !free, told)?;

@@ -1,12 +1,17 @@
-//! The built program `sheet`, run as a process. The gate builds it before the
-//! tests; where it is missing a run fails.
+//! The built program `sheet`, and others, run as processes. The gate builds it
+//! before the tests; where it is missing a run fails.
 
 use std::io::Write;
 use std::path::{Path, PathBuf};
 use std::process::{Child, Command, Output, Stdio};
 
+/// The folder of the tree.
+pub fn root() -> PathBuf {
+    Path::new(env!("CARGO_MANIFEST_DIR")).parent().expect("the tree's folder").to_path_buf()
+}
+
 pub fn path() -> PathBuf {
-    let path = Path::new(env!("CARGO_MANIFEST_DIR")).join("../target/bin/sheet");
+    let path = root().join("target/bin/sheet");
     assert!(path.is_file(), "there is no program {}", path.display());
     path
 }
@@ -17,6 +22,13 @@ pub fn command(before: &str, redirections: &str) -> Command {
     let mut command = Command::new("sh");
     let script = format!("{before} exec timeout 20 \"$0\" {redirections}");
     command.arg("-c").arg(script).arg(path());
+    command
+}
+
+/// A program with a terminal as its input (tests/terminal.py says how).
+pub fn at_terminal(how: &str, program: &Path) -> Command {
+    let mut command = Command::new("python3");
+    command.arg(root().join("tests/terminal.py")).arg(how).arg(program);
     command
 }
 
@@ -48,4 +60,11 @@ pub fn printed(output: Output) -> String {
     let reported = String::from_utf8_lossy(&output.stderr).into_owned();
     assert!(output.status.success() && reported.is_empty(), "{}: {reported}", output.status);
     String::from_utf8(output.stdout).expect("bytes of a sheet")
+}
+
+/// What was reported, by a run that ended well and printed nothing.
+pub fn reported(output: Output) -> String {
+    let printed = String::from_utf8_lossy(&output.stdout).into_owned();
+    assert!(output.status.success() && printed.is_empty(), "{}: {printed}", output.status);
+    String::from_utf8(output.stderr).expect("a report")
 }

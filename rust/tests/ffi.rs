@@ -41,10 +41,6 @@ fn case_1_by_text() {
     let replayed = ffi::replay(TEXT);
     assert_eq!(replayed.told(), served(7));
     assert_eq!(replayed.board, case_1().board);
-    let mut out = [7; MAX_OUTPUT];
-    let n = ffi::sheet_text(TEXT, &mut out);
-    assert_eq!(&out[..n], PRINTED);
-    assert!(out[n..].iter().all(|&b| b == 7));
     let mut out = [7; 100];
     assert_eq!(ffi::plan_text(TEXT, &mut out), served(PRINTED.len() as u64));
     assert_eq!(&out[..PRINTED.len()], PRINTED);
@@ -63,9 +59,30 @@ fn a_refused_text() {
     assert_eq!((ffi::plan_text(&text, &mut out), out), (refused(4, 4), [7; 100]));
     assert_eq!(ffi::refusal_line(4, 4, &mut out), served(6));
     assert_eq!(&out[..7], b"R\t4\t4\n\x07");
-    let mut out = [7; MAX_OUTPUT];
-    assert_eq!(ffi::sheet_text(&text, &mut out), 6);
-    assert_eq!(&out[..7], b"R\t4\t4\n\x07");
+}
+
+/// What a text prints, in lists with room for it exactly, for more, for a byte less and for nothing.
+fn try_sheet(text: &[u8], printed: &[u8]) {
+    let length = printed.len();
+    for room in [length, length + 1, length + 100, MAX_OUTPUT, MAX_OUTPUT + 1] {
+        let mut out = vec![7; room];
+        assert_eq!(ffi::sheet_text(text, &mut out), served(length as u64));
+        assert_eq!(&out[..length], printed);
+        assert_eq!(out[length..], vec![7; room - length]);
+    }
+    for room in [length - 1, length / 2, 1, 0] {
+        let mut out = vec![7; room];
+        assert_eq!((ffi::sheet_text(text, &mut out), out), (refused(8, 0), vec![7; room]));
+    }
+}
+
+#[test]
+fn sheets_in_lists_of_any_length() {
+    try_sheet(TEXT, PRINTED);
+    try_sheet(b"", b"R\t14\t1\n");
+    try_sheet(&[TEXT, b"W\t3\n"].concat(), b"R\t4\t4\n");
+    try_sheet(&TEXT[..TEXT.len() - 1], b"R\t14\t3\n");
+    try_sheet(&TEXT.repeat(3_000), b"R\t15\t0\n");
 }
 
 #[test]
@@ -102,8 +119,33 @@ fn refusals_keep_the_board() {
     let order = ffi::arrive(board, &edges);
     assert_eq!((order.told(), order.board), (refused(7, 2), board));
     let mut spoilt = board;
-    spoilt.withdrawn[0] = true;
+    spoilt.withdrawn[0] = 1;
     assert!(!ffi::is_sound(spoilt));
     let answer = ffi::arrive_buffer(spoilt, EdgeBuffer::new(&SECOND));
     assert_eq!((answer.told(), answer.board), (refused(13, 0), spoilt));
+}
+
+/// A board of two items that is sound but for one flag, of an item or of the
+/// last cell: every call that takes it answers 13 and keeps every byte.
+#[test]
+fn a_flag_is_0_or_1() {
+    let board = ffi::withdraw(case_1().board, 1).board;
+    assert_eq!((ffi::is_sound(board), board.withdrawn[0], board.withdrawn[1]), (true, 1, 0));
+    for (item, flag) in [(0, 2), (0, 255), (63, 1), (63, 2), (63, 255)] {
+        let mut spoilt = board;
+        spoilt.withdrawn[item] = flag;
+        assert!(!ffi::is_sound(spoilt));
+        let edges = [Edge { item: 2, weight: 90 }];
+        let by_buffer = ffi::arrive_buffer(spoilt, EdgeBuffer::new(&edges));
+        for after in [ffi::arrive(spoilt, &edges), by_buffer, ffi::withdraw(spoilt, 2)] {
+            assert_eq!((after.told(), after.board), (refused(13, 0), spoilt));
+        }
+        let (mut plan, mut prices, mut gains) = ([7; 2], [8; 2], [9; 2]);
+        let told = ffi::read_out(spoilt, &mut plan, &mut prices, &mut gains);
+        assert_eq!(told, refused(13, 0));
+        assert_eq!(ffi::exact(spoilt, &mut plan, &mut prices, &mut gains), refused(13, 0));
+        let totals = Totals { number: 13, place: 0, weight: 0, total: 0 };
+        assert_eq!(ffi::check(spoilt, &plan, &prices, &gains, 1, 10), totals);
+        assert_eq!((plan, prices, gains), ([7; 2], [8; 2], [9; 2]));
+    }
 }

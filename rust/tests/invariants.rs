@@ -40,7 +40,7 @@ fn is_entered(before: &ffi::Auction, after: &ffi::Answer, call: &Call) -> Law {
             }
             expected.arrived += 1;
         }
-        Call::Withdraw(item) => expected.withdrawn[*item as usize - 1] = true,
+        Call::Withdraw(item) => expected.withdrawn[*item as usize - 1] = 1,
     }
     require(expected == after.board, || "not the board that the call leaves".into())
 }

@@ -5,7 +5,7 @@ use noughtelm_tests::both::shown;
 use noughtelm_tests::gen::history::{history, Kind};
 use noughtelm_tests::gen::text::{dense, mutate, random, served_of_length, write};
 use noughtelm_tests::model::text::sheet;
-use noughtelm_tests::program::{command, feed, printed, run};
+use noughtelm_tests::program::{at_terminal, command, feed, path, printed, reported, run};
 use noughtelm_tests::rng::Rng;
 use std::fs::File;
 use std::process::Stdio;
@@ -13,7 +13,10 @@ use std::thread::sleep;
 use std::time::Duration;
 
 const CASE_1: &[u8] = b"K\t2\t1\t10\nA\t1\t100\t2\t60\nA\t1\t90\n";
+const PLAN_1: &str = "P\t1\t2\t600\nP\t2\t1\t420\nY\t1\t570\nY\t2\t60\nT\t150\t1650\t7\nE\t150\n";
 const TOO_LONG: &str = "R\t15\t0\n";
+const UNREAD: &str = "sheet: input cannot be read\n";
+const LOST: &str = "sheet: output lost\n";
 
 fn plain(text: &[u8]) -> String {
     printed(run(command("", ""), text))
@@ -21,8 +24,23 @@ fn plain(text: &[u8]) -> String {
 
 #[test]
 fn case_1() {
-    let expected = "P\t1\t2\t600\nP\t2\t1\t420\nY\t1\t570\nY\t2\t60\nT\t150\t1650\t7\nE\t150\n";
-    assert_eq!(plain(CASE_1), expected);
+    assert_eq!(plain(CASE_1), PLAN_1);
+}
+
+/// Each part of a text from its start is planned as what it is: a program that
+/// leaves the last byte out, or adds one, prints something else for most of them.
+#[test]
+fn every_start_of_case_1() {
+    let mut seen = Vec::new();
+    for n in 0..=CASE_1.len() {
+        let text = &CASE_1[..n];
+        let page = plain(text);
+        assert_eq!(page, shown(&sheet(text)), "{n} bytes");
+        if seen.last() != Some(&page) {
+            seen.push(page);
+        }
+    }
+    assert_eq!(seen.len(), 6, "{seen:?}");
 }
 
 /// A pause after each byte, so that each is read by itself.
@@ -69,7 +87,7 @@ fn empty_input() {
 
 #[test]
 fn closed_input_prints_nothing() {
-    assert_eq!(printed(run(command("", "<&-"), CASE_1)), "");
+    assert_eq!(reported(run(command("", "<&-"), CASE_1)), UNREAD);
 }
 
 #[test]
@@ -77,7 +95,19 @@ fn directory_as_input_prints_nothing() {
     let folder = File::open(env!("CARGO_MANIFEST_DIR")).expect("this folder");
     let mut command = command("", "");
     let output = command.stdin(Stdio::from(folder)).output().expect("a shell");
-    assert_eq!(printed(output), "");
+    assert_eq!(reported(output), UNREAD);
+}
+
+/// A whole text that is followed by a failed read is not taken for the input.
+#[test]
+fn cut_line_prints_nothing() {
+    assert_eq!(reported(run(at_terminal("lost", &path()), CASE_1)), UNREAD);
+}
+
+#[test]
+fn end_is_given_once_at_a_terminal() {
+    assert_eq!(printed(run(at_terminal("once", &path()), CASE_1)), PLAN_1);
+    assert_eq!(printed(run(at_terminal("once", &path()), b"")), "R\t14\t1\n");
 }
 
 /// A file as input is read like a pipe.
@@ -91,10 +121,10 @@ fn file_as_input() {
     assert_eq!(printed(output), shown(&sheet(&text)));
 }
 
-/// A lost output is not reported.
 #[test]
-fn full_device_as_output() {
-    assert_eq!(printed(run(command("", "> /dev/full"), CASE_1)), "");
+fn lost_output_is_reported() {
+    assert_eq!(reported(run(command("", "> /dev/full"), CASE_1)), LOST);
+    assert_eq!(reported(run(command("", ">&-"), CASE_1)), LOST);
 }
 
 #[test]

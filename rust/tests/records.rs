@@ -160,7 +160,7 @@ fn met(r: &Record, c: &Claim) -> Vec<Refusal> {
         }
         for i in 0..items {
             note(c.price[i] > 1_000_000_000, PRICE, i + 1);
-            note(r.withdrawn[i] && c.price[i] > 0, PRICE, i + 1);
+            note(r.is_gone(i) && c.price[i] > 0, PRICE, i + 1);
         }
         for b in 0..bidders {
             note(c.gain[b] > 1_000_000_000, PRICE, items + b + 1);
@@ -168,7 +168,7 @@ fn met(r: &Record, c: &Claim) -> Vec<Refusal> {
         for (b, i) in (0..bidders).flat_map(|b| (0..items).map(move |i| (b, i))) {
             let paid = c.gain[b] as u128 + c.price[i] as u128;
             let bare = paid < factor * r.rows[b][i] as u128;
-            note(!r.withdrawn[i] && r.rows[b][i] > 0 && bare, BARE, b + 1);
+            note(!r.is_gone(i) && r.rows[b][i] > 0 && bare, BARE, b + 1);
         }
     }
     all
@@ -183,7 +183,7 @@ fn cell_clashes(r: &Record, c: &Claim, bidder: usize) -> bool {
         return true;
     }
     let item = cell as usize - 1;
-    r.withdrawn[item] || r.rows[bidder][item] == 0 || c.matching[..bidder].contains(&cell)
+    r.is_gone(item) || r.rows[bidder][item] == 0 || c.matching[..bidder].contains(&cell)
 }
 
 fn totals(r: &Record, c: &Claim) -> Totals {

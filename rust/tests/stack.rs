@@ -72,8 +72,9 @@ fn texts_in_a_thread_of_2_mb() {
         let mut tried = 0;
         for text in deep_histories().iter().map(write) {
             let mut out = Box::new([0; MAX_OUTPUT]);
-            let length = ffi::sheet_text(&text, &mut out);
-            assert_eq!(shown(&out[..length]), shown(&sheet(&text)));
+            let told = ffi::sheet_text(&text, &mut out[..]);
+            assert_eq!(told.number, 0);
+            assert_eq!(shown(&out[..told.value as usize]), shown(&sheet(&text)));
             tried += 1;
         }
         tried

@@ -1,8 +1,11 @@
 //! History texts on both sides: the stored ones, those of histories, random and
-//! damaged ones, and texts at the limit of length. Replay's board and bids, what
-//! is printed, and plans in lists that are too short.
+//! damaged ones, and texts at the limit of length. Replay's board and bids, also
+//! those of a refused text, and what is printed, in lists with room and in ones
+//! that are too short.
 
-use noughtelm_tests::both::{equal_lines, equal_plans, equal_texts, page, shown, Same, Tally};
+use noughtelm_tests::both::{
+    equal, equal_lines, equal_plans, equal_sheets, equal_texts, page, shown, Same, Tally,
+};
 use noughtelm_tests::ffi::MAX_OUTPUT;
 use noughtelm_tests::gen::history::{history, staircase, Kind};
 use noughtelm_tests::gen::text::{dense, mutate, random, served_of_length, write};
@@ -11,7 +14,8 @@ use noughtelm_tests::{fast, ffi, model};
 use std::fs;
 use std::path::Path;
 
-/// Everything about one text, with a list that fits, one that does not, and any.
+/// Everything about one text, with a list that fits, one that does not, and any;
+/// what the program prints also with a list for every output, and with none.
 fn compare(text: &[u8], rng: &mut Rng, seen: &mut Tally) -> Same<()> {
     equal_texts(text, seen)?;
     let printed = model::text::sheet(text);
@@ -19,6 +23,10 @@ fn compare(text: &[u8], rng: &mut Rng, seen: &mut Tally) -> Same<()> {
     let any = rng.index(2 * printed.len());
     for room in [printed.len(), printed.len() - 1, any] {
         equal_plans(text, room, seen)?.ok();
+        equal_sheets(text, &printed, room, seen)?;
+    }
+    for room in [MAX_OUTPUT, 0] {
+        equal_sheets(text, &printed, room, seen)?;
     }
     Ok(())
 }
@@ -37,9 +45,10 @@ fn stored_texts() {
     for input in files.filter(|f| f.extension().is_some_and(|e| e == "in")) {
         let text = fs::read(&input).unwrap();
         let stored = fs::read(input.with_extension("out")).unwrap();
-        let mut out: [u8; MAX_OUTPUT] = page(MAX_OUTPUT).try_into().unwrap();
-        let length = ffi::sheet_text(&text, &mut out);
-        assert_eq!(shown(&out[..length]), shown(&stored), "{input:?}");
+        let mut out = page(stored.len());
+        let told = ffi::sheet_text(&text, &mut out);
+        assert_eq!((told.number, told.value), (0, stored.len() as u64), "{input:?}");
+        assert_eq!(shown(&out), shown(&stored), "{input:?}");
         let mut plan = page(stored.len());
         let told = ffi::plan_text(&text, &mut plan);
         if told.number == 0 {
@@ -67,6 +76,7 @@ fn texts_of_histories() {
     (2..=64).for_each(|items| try_text(items, &write(&staircase(items)), &mut seen));
     println!("{seen:?}");
     assert!(seen.of("replay", 0) > 1_500 && seen.of("plan", 8) > 1_500);
+    seen.assert_seen("sheet", &[0, 8], 4_000);
 }
 
 /// 20,000 texts of histories, damaged.
@@ -83,6 +93,49 @@ fn damaged_texts() {
     println!("{seen:?}");
     seen.assert_seen("replay", &[0, 1, 2, 4, 5, 6, 7, 14, 15], 20);
     seen.assert_seen("plan", &[0, 1, 2, 4, 5, 6, 7, 8, 14, 15], 50);
+    seen.assert_seen("sheet", &[0, 8], 40_000);
+}
+
+/// The first lines of a text.
+fn first_lines(text: &[u8], count: u64) -> &[u8] {
+    let lines = text.split_inclusive(|&byte| byte == b'\n').take(count as usize);
+    &text[..lines.map(<[u8]>::len).sum()]
+}
+
+/// A refused text has the board and the bids of the lines before the refused one, which are
+/// served by themselves. There are none where the first line is refused, or the length.
+fn keep_lines_before(text: &[u8], seen: &mut Tally) -> Same<()> {
+    let Some(refusal) = equal_texts(text, seen)? else { return Ok(()) };
+    let before = first_lines(text, refusal.place.saturating_sub(1));
+    let alone = equal_texts(before, &mut Tally::default())?;
+    equal("the lines before, refused", alone.is_some(), before.is_empty())?;
+    let (ours, expected) = (ffi::replay(text), ffi::replay(before));
+    equal("bids, with and without the refused line", ours.value, expected.value)?;
+    equal("the boards, with and without it, equal", ours.board == expected.board, true)?;
+    seen.count("bids before", u64::from(expected.value > 0));
+    seen.count("bidders before", expected.board.arrived);
+    Ok(())
+}
+
+#[test]
+fn a_refused_text_keeps_the_lines_before() {
+    let mut seen = Tally::default();
+    for seed in 180_000..192_000 {
+        let rng = &mut Rng::new(seed);
+        let kind = rng.pick(&[Kind::Small, Kind::Ties, Kind::Withdrawals, Kind::Refused]);
+        let text = match rng.chance(1, 4) {
+            true => random(rng),
+            false => write(&history(rng, kind)),
+        };
+        let text = mutate(rng, &text);
+        if let Err(found) = keep_lines_before(&text, &mut seen) {
+            panic!("seed {seed}: {found}\n{:?}", shown(&text));
+        }
+    }
+    println!("{seen:?}");
+    seen.assert_seen("replay", &[0, 1, 2, 4, 5, 6, 7, 14, 15], 10);
+    seen.assert_seen("bids before", &[0, 1], 1_000);
+    assert!((1..=5).all(|bidders| seen.of("bidders before", bidders) > 50));
 }
 
 #[test]
@@ -145,6 +198,7 @@ fn texts_at_the_limit() {
     println!("{seen:?}");
     assert_eq!((seen.of("replay", 0), seen.of("replay", 15)), (3, 9));
     seen.assert_seen("replay", &[0, 3, 4, 5, 7, 14, 15], 1);
+    seen.assert_seen("sheet", &[0, 8], 50);
 }
 
 #[test]

@@ -20,7 +20,7 @@ fn is_unreached(r: &Record) -> bool {
 fn live_arrival(rng: &mut Rng, r: &Record) -> Vec<Edge> {
     let density = rng.range(0, 3);
     let mut edges = Vec::new();
-    for item in (0..r.items).filter(|&i| !r.withdrawn[i as usize]) {
+    for item in (0..r.items).filter(|&i| !r.is_gone(i as usize)) {
         if rng.chance(density, 3) {
             let weight = rng.pick(&[1, 50, 9_999, MAX_WEIGHT]);
             edges.push(Edge { item: item + 1, weight: rng.range(1, weight) });
@@ -32,7 +32,7 @@ fn live_arrival(rng: &mut Rng, r: &Record) -> Vec<Edge> {
 fn bad_arrival(rng: &mut Rng, r: &Record) -> Vec<Edge> {
     let mut edges = live_arrival(rng, r);
     edges.push(Edge { item: 1, weight: 1 });
-    let gone = (0..64).find(|&i| r.withdrawn[i]).map_or(0, |item| item as u64 + 1);
+    let gone = (0..64).find(|&i| r.is_gone(i)).map_or(0, |item| item as u64 + 1);
     let number = rng.pick(&[UNKNOWN, GONE, WORTH, ORDER]);
     let place = edges.len();
     list::spoil(rng, &mut edges, place, number, gone);

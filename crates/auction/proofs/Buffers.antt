@@ -1,6 +1,6 @@
 -- A buffer's two lists and the edges that they mean are tested alike and make the same row.
 use mathlib.Core.Path.{_≡_, refl, sym, ap, ap₂, _∙_}
-use mathlib.Core.Bool.{Bool, true}
+use mathlib.Core.Bool.{true}
 use mathlib.Core.List.{List, [], _++_}
 use Prim.Native.Nat.{ℕ, zero, suc, _+_, _-_, _≤_, _<_, min}
 use native.Mathlib.Nat.{not-suc-le-zero}
@@ -42,7 +42,7 @@ from-cell xs ys (suc n) i l =
     i l
 
 -- Tests and rows read only the cells below a number
-module _ (items : ℕ) (withdrawn : List Bool) (f f′ g g′ : ℕ → ℕ) where
+module _ (items : ℕ) (withdrawn : List ℕ) (f f′ g g′ : ℕ → ℕ) where
   order-as : (i : ℕ) → ((j : ℕ) → j ≤ i → f j ≡ f′ j) → orderTest f i ≡ orderTest f′ i
   unfolding orderTest
   order-as zero e = refl
@@ -74,7 +74,7 @@ module _ (xs ys : List ℕ) (n : ℕ) where
   same-weight : (i : ℕ) → i < n → cells ys i ≡ weightIn (edgesFrom xs ys n) i
   same-weight i l = sym (ap (λ (e : Edge). e .weight .0) (from-cell xs ys n i l))
 
-  pub buffer-checks : (items : ℕ) (withdrawn : List Bool) → edgesChecks items withdrawn (cells xs) (cells ys) 0 n ≡
+  pub buffer-checks : (items : ℕ) (withdrawn : List ℕ) → edgesChecks items withdrawn (cells xs) (cells ys) 0 n ≡
       edgesChecks items withdrawn (itemIn (edgesFrom xs ys n)) (weightIn (edgesFrom xs ys n)) 0 (length (edgesFrom xs ys n))
   buffer-checks items withdrawn =
       rw (from-length xs ys n) (edges-as items withdrawn _ _ _ _ 0 n (λ j l. same-item j (omega arith)) (λ j l. same-weight j (omega arith)))

@@ -2,7 +2,7 @@
 use mathlib.Core.Path.{_≡_, refl, sym, ap, _∙_}
 use mathlib.Core.Bool.{true, false}
 use mathlib.Core.List.{List}
-use Prim.Native.Nat.{ℕ, zero, suc, _-_, _≤_}
+use Prim.Native.Nat.{ℕ, zero, suc, _+_, _-_, _≤_, _<_}
 use native.Mathlib.Omega.{arith}
 use lib.ListN.{length}
 use Rattle.duality.specs.Decide.{Decides}
@@ -24,19 +24,20 @@ use Rattle.board.specs.Limits.{maxItems, maxBidders, maxWeight}
 use Rattle.board.specs.Cells.{withdrawnAt}
 use Rattle.board.specs.Sound.{Sound}
 use Rattle.board.specs.Ranges.{SlackIn, Within}
-use Rattle.refusals.specs.Demand1.{firstOf, Check, Demand1}
+use Rattle.refusals.specs.Demand1.{firstOf, Check, codesOf, Demand1}
 use Rattle.auction.specs.Edges.{itemIn, weightIn, orderTest, edgeChecks, edgesChecks}
-use Rattle.board.specs.Opening.{opened, OpenMet, count, slack, openChecks, openBy, openOf}
+use Rattle.board.specs.Opening.{OpenMet, openChecks, openBy, openOf}
 use Rattle.auction.specs.ReadOut.{readOutBy, readOutOf}
 use Rattle.board.specs.Lent.{readOutChecks}
 use Rattle.auction.specs.Arrive.{ArriveMet, arriveRest, arriveChecks, arrivalOf, arriveBy, arriveOf}
 use Rattle.auction.specs.Withdraw.{WithdrawMet, withdrawRest, withdrawChecks, withdrawalOf, withdrawBy, withdrawOf}
-use Rattle.auction.specs.Demand1.{OpenDemand1, ArriveDemand1, WithdrawDemand1, ReadOutDemand1}
+use Rattle.auction.specs.Demand1.{OpenDemand1, ArriveDemand1, WithdrawDemand1, ReadOutDemand1, entryCodes, CallOrders}
 use Rattle.board.proofs.Lending.{read-out-decided}
 use Rattle.board.proofs.Tests.{no-decides, within-decides, slack-decides}
-use Rattle.refusals.proofs.Verdicts.{Decided, ends, next, decided-append, demand-1}
+use Rattle.refusals.proofs.Verdicts.{Decided, ends, next, decided-append, demand-1, demand-1-as}
 use Rattle.board.proofs.SoundLaw.{sound-decides}
 use Rattle.auction.proofs.Demand2.{arrive-ends, withdraw-ends}
+use Rattle.auction.proofs.Told.{opened-refused, opened-ready, arrived-refused, arrived-bids, withdrawn-refused, withdrawn-bids, read-refused, read-written}
 
 -- ---- Open
 
@@ -56,16 +57,16 @@ pub open-demand-1 : OpenDemand1
 unfolding openOf openBy
 open-demand-1 items p q =
     demand-1 (open-decided items p q)
-    (λ r. (λ e. rw e, λ e. by-refused r (firstOf (openChecks items p q)) e))
-    (λ e. rw e, λ e. by-ready (firstOf (openChecks items p q)) e)
+    (λ r. (λ e. record { board = rw e; tells = rw e }, λ a. by-refused r (firstOf (openChecks items p q)) (opened-refused _ r (a .tells))))
+    (λ e. record { board = rw e; tells = rw e }, λ a. by-ready (firstOf (openChecks items p q)) (opened-ready _ (a .tells)))
   where
-    by-refused : (r : Refusal) (v : Verdict) → openBy items p q v ≡ record { auction = opened 0 0 0; answer = Opened.Refused r } → v ≡ Refused r
-    by-refused r Served e = let a : Opened.Ready ≡ Opened.Refused r = ap (λ o. o .answer) e in let z : _≡_ {A = ℕ} 0 1 = cc in absurd (omega arith)
-    by-refused r (Refused s) e = let a : Opened.Refused s ≡ Opened.Refused r = ap (λ o. o .answer) e in let h : s ≡ r = cc in ap Refused h
+    by-refused : (r : Refusal) (v : Verdict) → openBy items p q v .answer ≡ Opened.Refused r → v ≡ Refused r
+    by-refused r Served e = let z : _≡_ {A = ℕ} 0 1 = cc in absurd (omega arith)
+    by-refused r (Refused s) e = let h : s ≡ r = cc in ap Refused h
 
-    by-ready : (v : Verdict) → openBy items p q v ≡ record { auction = opened items p q; answer = Opened.Ready } → v ≡ Served
+    by-ready : (v : Verdict) → openBy items p q v .answer ≡ Opened.Ready → v ≡ Served
     by-ready Served e = refl
-    by-ready (Refused s) e = let a : Opened.Refused s ≡ Opened.Ready = ap (λ o. o .answer) e in let z : _≡_ {A = ℕ} 0 1 = cc in absurd (omega arith)
+    by-ready (Refused s) e = let z : _≡_ {A = ℕ} 0 1 = cc in absurd (omega arith)
 
 -- ---- A call that runs a chain of bids where it serves: arrive and withdraw
 
@@ -112,42 +113,43 @@ module _ (b : Auction) (edges : List Edge) where
   full-met (ArriveMet.full l) = l
 
   unknown-met : (i : ℕ) → ArriveMet b edges (Unknown (suc i)) → Within 1 (b .market .items) (itemIn edges i) → ⊥
-  unknown-met i (ArriveMet.unknown f) = f
+  unknown-met i (ArriveMet.unknown l f) = f
 
   gone-met : (i : ℕ) → ArriveMet b edges (Gone (suc i)) → withdrawnAt b (itemIn edges i - 1) ≡ true
-  gone-met i (ArriveMet.gone e) = e
+  gone-met i (ArriveMet.gone l e) = e
 
   worth-met : (i : ℕ) → ArriveMet b edges (Worth (suc i)) → Within 1 maxWeight (weightIn edges i) → ⊥
-  worth-met i (ArriveMet.worth f) = f
+  worth-met i (ArriveMet.worth l f) = f
 
-  order-decided : (i : ℕ) → Decides (orderTest (itemIn edges) i) (ArriveMet b edges (Order (suc i)))
+  order-decided : (i : ℕ) → i < length edges → Decides (orderTest (itemIn edges) i) (ArriveMet b edges (Order (suc i)))
   unfolding orderTest
-  order-decided zero = record { sound = λ e. absurd (clash false e refl); complete = λ m. absurd (never m) }
+  order-decided zero h = record { sound = λ e. absurd (clash false e refl); complete = λ m. absurd (never m) }
     where
       never : ArriveMet b edges (Order 1) → ⊥
       never = elim [ ]
-  order-decided (suc i) = reword (le-decides (itemIn edges (suc i)) (itemIn edges i)) (λ l. ArriveMet.order l) order-met
+  order-decided (suc i) h = reword (le-decides (itemIn edges (suc i)) (itemIn edges i)) (λ l. ArriveMet.order h l) order-met
     where
       order-met : ArriveMet b edges (Order (suc (suc i))) → itemIn edges (suc i) ≤ itemIn edges i
-      order-met (ArriveMet.order l) = l
+      order-met (ArriveMet.order h l) = l
 
-  edges-decided : (i n : ℕ) → Decided (ArriveMet b edges) (edgesChecks (b .market .items) (b .market .withdrawn) (itemIn edges) (weightIn edges) i n)
+  edges-decided : (i n : ℕ) → i + n ≡ length edges → Decided (ArriveMet b edges) (edgesChecks (b .market .items) (b .market .withdrawn) (itemIn edges) (weightIn edges) i n)
   unfolding edgesChecks edgeChecks
-  edges-decided i zero = ends
-  edges-decided i (suc n) =
+  edges-decided i zero h = ends
+  edges-decided i (suc n) h =
+      let l : i < length edges = omega (arith, h) in
       decided-append
-      (next (reword (no-decides (within-decides (b .market .items) (itemIn edges i))) (λ f. ArriveMet.unknown f) (unknown-met i))
-      (next (reword (true-decides (withdrawnAt b (itemIn edges i - 1))) (λ e. ArriveMet.gone e) (gone-met i))
-      (next (reword (no-decides (within-decides maxWeight (weightIn edges i))) (λ f. ArriveMet.worth f) (worth-met i))
-      (next (order-decided i) ends))))
-      (edges-decided (suc i) n)
+      (next (reword (no-decides (within-decides (b .market .items) (itemIn edges i))) (λ f. ArriveMet.unknown l f) (unknown-met i))
+      (next (reword (true-decides (withdrawnAt b (itemIn edges i - 1))) (λ e. ArriveMet.gone l e) (gone-met i))
+      (next (reword (no-decides (within-decides maxWeight (weightIn edges i))) (λ f. ArriveMet.worth l f) (worth-met i))
+      (next (order-decided i l) ends))))
+      (edges-decided (suc i) n (omega (arith, h)))
 
   arrive-decided : Decided (ArriveMet b edges) (arriveChecks b edges)
   unfolding arriveRest
   arrive-decided =
       next (reword (no-decides (sound-decides b)) (λ f. ArriveMet.spoilt f) arrive-unsound)
       (next (reword (le-decides maxBidders (b .market .arrived)) (λ l. ArriveMet.full l) full-met)
-      (edges-decided 0 (length edges)))
+      (edges-decided 0 (length edges) (omega arith)))
 
 abbrev arrival : Auction → Arrived → Arrival
 arrival c a = record { auction = c; answer = a }
@@ -161,11 +163,16 @@ arrival-bids (done s) a e = (s .bids, let h : arrival (s .auction) (Arrived.Bids
 pub arrive-demand-1 : ArriveDemand1
 unfolding arriveOf arriveBy
 arrive-demand-1 b edges =
-    chain-demand-1 (arriveBy b edges) (λ c n. arrival c (Arrived.Bids n)) (λ r. arrival b (Arrived.Refused r)) (arrive-decided b edges)
+    demand-1-as
+    (chain-demand-1 (arriveBy b edges) (λ c n. arrival c (Arrived.Bids n)) (λ r. arrival b (Arrived.Refused r)) (arrive-decided b edges)
     (λ r. refl) bids
     (λ r s e. let f : Arrived.Refused r ≡ Arrived.Refused s = ap (λ x. x .answer) e in cc)
     (λ r c n e. let f : Arrived.Refused r ≡ Arrived.Bids n = ap (λ x. x .answer) e in let z : _≡_ {A = ℕ} 0 1 = cc in omega arith)
-    (arrive-ends b edges)
+    (arrive-ends b edges))
+    (λ r. (λ e. record { answer = Arrived.Refused r; outcome = e; tells = refl }, λ a. a .outcome ∙ ap (λ x. done (arrival b x)) (arrived-refused (a .answer) r (a .tells)))) (
+      λ s. (s .0, s .1, record { answer = Arrived.Bids (s .1); outcome = s .2; tells = refl }),
+      λ s. (s .0, s .1, s .2 .outcome ∙ ap (λ x. done (arrival (s .0) x)) (arrived-bids (s .2 .answer) (s .1) (s .2 .tells))),
+    )
   where
     bids : (a : Arrival) → arriveBy b edges Served ≡ done a → (c : Auction) × (n : ℕ) × (a ≡ arrival c (Arrived.Bids n))
     bids a e = let (n, h) = arrival-bids _ a e in (a .auction, n, rw (← h) refl)
@@ -201,11 +208,16 @@ withdrawal-bids (done s) a e = (s .bids, let h : withdrawal (s .auction) (Withdr
 pub withdraw-demand-1 : WithdrawDemand1
 unfolding withdrawOf withdrawBy
 withdraw-demand-1 b item =
-    chain-demand-1 (withdrawBy b item) (λ c n. withdrawal c (Withdrawn.Bids n)) (λ r. withdrawal b (Withdrawn.Refused r)) (withdraw-decided b item)
+    demand-1-as
+    (chain-demand-1 (withdrawBy b item) (λ c n. withdrawal c (Withdrawn.Bids n)) (λ r. withdrawal b (Withdrawn.Refused r)) (withdraw-decided b item)
     (λ r. refl) bids
     (λ r s e. let f : Withdrawn.Refused r ≡ Withdrawn.Refused s = ap (λ x. x .answer) e in cc)
     (λ r c n e. let f : Withdrawn.Refused r ≡ Withdrawn.Bids n = ap (λ x. x .answer) e in let z : _≡_ {A = ℕ} 0 1 = cc in omega arith)
-    (withdraw-ends b item)
+    (withdraw-ends b item))
+    (λ r. (λ e. record { answer = Withdrawn.Refused r; outcome = e; tells = refl }, λ a. a .outcome ∙ ap (λ x. done (withdrawal b x)) (withdrawn-refused (a .answer) r (a .tells)))) (
+      λ s. (s .0, s .1, record { answer = Withdrawn.Bids (s .1); outcome = s .2; tells = refl }),
+      λ s. (s .0, s .1, s .2 .outcome ∙ ap (λ x. done (withdrawal (s .0) x)) (withdrawn-bids (s .2 .answer) (s .1) (s .2 .tells))),
+    )
   where
     bids : (a : Withdrawal) → withdrawBy b item Served ≡ done a → (c : Auction) × (n : ℕ) × (a ≡ withdrawal c (Withdrawn.Bids n))
     bids a e = let (n, h) = withdrawal-bids _ a e in (a .auction, n, rw (← h) refl)
@@ -216,8 +228,8 @@ pub read-out-demand-1 : ReadOutDemand1
 unfolding readOutOf readOutBy
 read-out-demand-1 b l =
     demand-1 (read-out-decided b l)
-    (λ r. (λ e. rw e, λ e. by-refused r (firstOf (readOutChecks b l)) (ap (λ o. o .answer) e)))
-    (λ e. rw e, λ e. by-written (firstOf (readOutChecks b l)) e)
+    (λ r. (λ e. record { lists = rw e; tells = rw e }, λ a. by-refused r (firstOf (readOutChecks b l)) (read-refused _ r (a .tells))))
+    (λ e. (_, record { lists = refl; tells = rw e }), λ a. by-written (firstOf (readOutChecks b l)) (read-written _ (a .1 .tells)))
   where
     by-refused : (r : Refusal) (v : Verdict) → readOutBy b l v .answer ≡ ReadOut.Refused r → v ≡ Refused r
     by-refused r Served e = let z : _≡_ {A = ℕ} 0 1 = cc in absurd (omega arith)
@@ -226,3 +238,21 @@ read-out-demand-1 b l =
     by-written : (v : Verdict) → readOutBy b l v .answer ≡ ReadOut.Written → v ≡ Served
     by-written Served e = refl
     by-written (Refused s) e = let z : _≡_ {A = ℕ} 0 1 = cc in absurd (omega arith)
+
+-- ---- The order of the checks
+
+module _ (b : Auction) (edges : List Edge) where
+  entries-order : (i n : ℕ) → codesOf (edgesChecks (b .market .items) (b .market .withdrawn) (itemIn edges) (weightIn edges) i n) ≡ entryCodes (suc i) n
+  unfolding edgesChecks edgeChecks
+  entries-order i zero = refl
+  entries-order i (suc n) = rw (entries-order (suc i) n)
+
+pub call-orders : CallOrders
+unfolding arriveRest withdrawRest
+call-orders =
+    record {
+      opens = λ items p q. refl;
+      arrives = λ b edges. rw (entries-order b edges 0 (length edges));
+      withdraws = λ b item. refl;
+      reads = λ b l. refl;
+    }

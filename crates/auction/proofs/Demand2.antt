@@ -1,6 +1,7 @@
 -- Demand 2: each call ends, makes the bids of the rule, and leaves a sound board; what holds of a sound board; what a read-out writes.
 use mathlib.Core.Path.{_≡_, refl, sym, subst, subst₂, _∙_}
 use mathlib.Core.List.{List}
+use mathlib.Core.Logic.{_⊎_, inl, inr}
 use Prim.Native.Nat.{ℕ, _+_, _-_, _≤_, _<_}
 use native.Mathlib.Nat.{mul-pos}
 use native.Mathlib.Omega.{arith}
@@ -25,11 +26,12 @@ use Rattle.board.specs.Live.{live, matchingOf}
 use Rattle.board.specs.Sound.{Sound}
 use Rattle.bidding.specs.Potential.{edgeCount, potential}
 use Rattle.bidding.specs.Rule.{displaced, done, handOver}
+use Rattle.refusals.specs.Told.{served, refused}
 use Rattle.refusals.specs.Demand1.{firstOf}
 use Rattle.auction.specs.Edges.{itemIn, weightIn, rowTo}
-use Rattle.auction.specs.Arrive.{arriveChecks, arrivalOf, arriveBy, arriveOf}
+use Rattle.auction.specs.Arrive.{arriveChecks, arrivalOf, arriveBy, arriveOf, ArriveAnswers}
 use Rattle.bidding.specs.Moves.{arrivedOf, entered, withdrawnOf, released}
-use Rattle.auction.specs.Withdraw.{withdrawChecks, withdrawalOf, withdrawBy, withdrawOf}
+use Rattle.auction.specs.Withdraw.{withdrawChecks, withdrawalOf, withdrawBy, withdrawOf, WithdrawAnswers}
 use Rattle.bidding.specs.Waiting.{Nobody, Ready}
 use Rattle.bidding.specs.RuleLaws.{Settles, Ends}
 use Rattle.auction.specs.Demand2.{ArriveEnds, WithdrawEnds, Arrives, ArriveDemand2, Leaves, free, held, Withdraws, WithdrawDemand2, SoundDemand2}
@@ -41,7 +43,9 @@ use Rattle.bidding.proofs.Potentials.{potential-displaced, potential-released}
 use Rattle.bidding.proofs.Chains.{chain-ends, settle-is-chain}
 use Rattle.bidding.proofs.Starts.{arrival-ready, withdrawal-ready, withdrawal-free}
 use Rattle.refusals.proofs.Verdicts.{served-next}
-use Rattle.auction.proofs.EdgesLaw.{EdgesAccepted, served-arrival, served-withdrawal, row-fits}
+use Rattle.auction.proofs.EdgesLaw.{EdgesAccepted, served-arrival, served-withdrawal, row-fits, row-length}
+use Rattle.auction.proofs.Entries.{accepted-edges, entered-edges, entered-others, chain-edges, leaves-edges}
+use Rattle.auction.proofs.Told.{arrived-bids, withdrawn-bids}
 
 -- An answer is one
 same-done : {A : Type 0} {r s : A} (P : A → Type 0) → done r ≡ done s → P r → P s
@@ -107,13 +111,32 @@ arrive-ends b edges = go (firstOf (arriveChecks b edges)) refl
     go Served e = (_, joins b edges e .answers)
     go (Refused q) e = (_, refused-arrival b edges q e)
 
+-- An arrival serves, or refuses and leaves the board
+pub arrive-either : (b : Auction) (edges : List Edge) → ((c : Auction) × (n : ℕ) × ArriveAnswers b edges c (served n)) ⊎ ((r : Refusal) × ArriveAnswers b edges b (refused r))
+arrive-either b edges = go (firstOf (arriveChecks b edges)) refl
+  where
+    go : (v : Verdict) → firstOf (arriveChecks b edges) ≡ v → ((c : Auction) × (n : ℕ) × ArriveAnswers b edges c (served n)) ⊎ ((r : Refusal) × ArriveAnswers b edges b (refused r))
+    go Served e = inl (_, _, record { answer = Arrived.Bids _; outcome = joins b edges e .answers; tells = refl })
+    go (Refused q) e = inr (q, record { answer = Arrived.Refused q; outcome = refused-arrival b edges q e; tells = refl })
+
 pub arrive-demand-2 : ArriveDemand2
-arrive-demand-2 b c edges n h =
+arrive-demand-2 b c edges n a =
     arrive-all b edges (λ r. r .auction ≡ c → r .answer ≡ Arrived.Bids n → Arrives b edges c n)
-    (λ j e f. let k : j .after .settles .bids ≡ n = cc in
-    subst₂ (λ c n. Arrives b edges c n) e k (record { before = j .before; chain = j .after .settles .chain; after = j .after .sound }))
+    (λ j e f. let k : j .after .settles .bids ≡ n = cc in subst₂ (λ c n. Arrives b edges c n) e k (arrives j))
     (λ q e f. let z : _≡_ {A = ℕ} 0 1 = cc in absurd (omega arith))
-    _ h refl refl
+    _ (a .outcome) refl (arrived-bids (a .answer) n (a .tells))
+  where
+    arrives : (j : Joins b edges) → Arrives b edges (j .after .settles .board) (j .after .settles .bids)
+    arrives j =
+        let chain = j .after .settles .chain in
+        let size = row-length (itemIn edges) (weightIn edges) (length edges) in
+        record {
+          before = j .before;
+          chain = chain;
+          entries = chain-edges chain (b .market .arrived) ∙ entered-edges b _ size (j .before .formed) (j .room) ∙ accepted-edges edges (j .before .items .1) (j .accepted);
+          others = λ i l. chain-edges chain i ∙ entered-others b _ size i l;
+          after = j .after .sound;
+        }
 
 -- ---- Withdraw
 
@@ -179,13 +202,21 @@ withdraw-ends b item = go (firstOf (withdrawChecks b item)) refl
     go Served e = (_, quits b item e .answers)
     go (Refused q) e = (_, refused-withdrawal b item q e)
 
+-- A withdrawal serves, or refuses and leaves the board
+pub withdraw-either : (b : Auction) (item : ℕ) → ((c : Auction) × (n : ℕ) × WithdrawAnswers b item c (served n)) ⊎ ((r : Refusal) × WithdrawAnswers b item b (refused r))
+withdraw-either b item = go (firstOf (withdrawChecks b item)) refl
+  where
+    go : (v : Verdict) → firstOf (withdrawChecks b item) ≡ v → ((c : Auction) × (n : ℕ) × WithdrawAnswers b item c (served n)) ⊎ ((r : Refusal) × WithdrawAnswers b item b (refused r))
+    go Served e = inl (_, _, record { answer = Withdrawn.Bids _; outcome = quits b item e .answers; tells = refl })
+    go (Refused q) e = inr (q, record { answer = Withdrawn.Refused q; outcome = refused-withdrawal b item q e; tells = refl })
+
 pub withdraw-demand-2 : WithdrawDemand2
-withdraw-demand-2 b c item n h =
+withdraw-demand-2 b c item n a =
     withdraw-all b item (λ r. r .auction ≡ c → r .answer ≡ Withdrawn.Bids n → Withdraws b item c n)
     (λ j e f. let k : j .bids ≡ n = cc in
-    subst₂ (λ c n. Withdraws b item c n) e k (record { before = j .before; leaves = j .leaves; after = j .after }))
+    subst₂ (λ c n. Withdraws b item c n) e k (record { before = j .before; leaves = j .leaves; others = leaves-edges (j .leaves); after = j .after }))
     (λ q e f. let z : _≡_ {A = ℕ} 0 1 = cc in absurd (omega arith))
-    _ h refl refl
+    _ (a .outcome) refl (withdrawn-bids (a .answer) n (a .tells))
 
 -- ---- A sound board
 pub sound-demand-2 : SoundDemand2

@@ -1,22 +1,22 @@
 -- The verdicts on an arrival's edges, as the code comes to them.
 use mathlib.Core.Path.{_≡_, sym, _∙_}
-use mathlib.Core.Bool.{Bool, true, false}
+use mathlib.Core.Bool.{true, false}
 use mathlib.Core.List.{List, _++_}
 use Prim.Native.Nat.{ℕ, suc, _+_, _-_, _<_}
 use native.Mathlib.Numerals.{add-one}
 use native.Mathlib.Omega.{arith}
-use lib.ListN.{getD}
 use Rattle.refusals.specs.declared.Refusal.{Refusal}
 use Rattle.refusals.specs.declared.Refusal.the-variants.{Unknown, Gone, Worth, Order}
 use Rattle.refusals.specs.declared.Verdict.{Verdict}
 use Rattle.refusals.specs.declared.Verdict.the-variants.{Served, Refused}
 use Rattle.board.specs.Limits.{maxWeight}
+use Rattle.board.specs.Cells.{flagAt}
 use Rattle.refusals.specs.Demand1.{firstOf}
 use Rattle.board.specs.Ranges.{withinTest}
 use Rattle.auction.specs.Edges.{orderTest, edgeChecks, edgesChecks}
 use Rattle.refusals.proofs.Verdicts.{first-on, first-stops}
 
-module _ (items : ℕ) (withdrawn : List Bool) (item weight : ℕ → ℕ) where
+module _ (items : ℕ) (withdrawn : List ℕ) (item weight : ℕ → ℕ) where
   -- One edge: each answer in turn
   module _ (i : ℕ) where
     pub unknown : withinTest items (item i) ≡ false → Refused (Unknown (i + 1)) ≡ firstOf (edgeChecks items withdrawn item weight i)
@@ -24,11 +24,11 @@ module _ (items : ℕ) (withdrawn : List Bool) (item weight : ℕ → ℕ) where
     unknown e = rw (e, add-one)
 
     module _ (e₁ : withinTest items (item i) ≡ true) where
-      pub gone : getD withdrawn (item i - 1) false ≡ true → Refused (Gone (i + 1)) ≡ firstOf (edgeChecks items withdrawn item weight i)
+      pub gone : flagAt withdrawn (item i - 1) ≡ true → Refused (Gone (i + 1)) ≡ firstOf (edgeChecks items withdrawn item weight i)
       unfolding firstOf edgeChecks
       gone e = rw (e₁, e, add-one)
 
-      module _ (e₂ : getD withdrawn (item i - 1) false ≡ false) where
+      module _ (e₂ : flagAt withdrawn (item i - 1) ≡ false) where
         pub worth : withinTest maxWeight (weight i) ≡ false → Refused (Worth (i + 1)) ≡ firstOf (edgeChecks items withdrawn item weight i)
         unfolding firstOf edgeChecks
         worth e = rw (e₁, e₂, e, add-one)

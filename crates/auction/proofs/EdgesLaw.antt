@@ -1,7 +1,7 @@
 -- What it says that an arrival's edges, or a withdrawal's item, are served; and the row that the edges make.
 use mathlib.Core.Path.{_≡_, refl, ap}
 use mathlib.Core.Logic.{⊎-elim}
-use mathlib.Core.Bool.{Bool, false}
+use mathlib.Core.Bool.{false}
 use mathlib.Core.List.{List, [], _∷_, _++_}
 use Prim.Native.Nat.{ℕ, zero, suc, _+_, _-_, _≤_, _<_}
 use native.Mathlib.Nat.{le-refl, eq-or-lt-of-le}
@@ -16,7 +16,7 @@ use Rattle.board.specs.declared.record.Auction.{Auction}
 use Rattle.board.specs.declared.record.Edge.{Edge}
 use Rattle.refusals.specs.declared.Verdict.the-variants.{Served}
 use Rattle.board.specs.Limits.{maxItems, maxBidders, maxWeight}
-use Rattle.board.specs.Cells.{withdrawnAt}
+use Rattle.board.specs.Cells.{flagAt, withdrawnAt}
 use Rattle.bidding.specs.Potential.{one}
 use Rattle.refusals.specs.Demand1.{Check, firstOf}
 use Rattle.board.specs.Ranges.{Within}
@@ -32,17 +32,17 @@ use Rattle.bidding.proofs.Potentials.{rowCount}
 -- ---- Served checks
 
 -- Edges that are served: each at an item of the board that is not withdrawn, its weight within limits, and items rising
-pub record EdgesAccepted (items : ℕ) (withdrawn : List Bool) (item weight : ℕ → ℕ) (n : ℕ) : Type 0 where
+pub record EdgesAccepted (items : ℕ) (withdrawn : List ℕ) (item weight : ℕ → ℕ) (n : ℕ) : Type 0 where
   pub known : (i : ℕ) → i < n → Within 1 items (item i)
-  pub here : (i : ℕ) → i < n → getD withdrawn (item i - 1) false ≡ false
+  pub here : (i : ℕ) → i < n → flagAt withdrawn (item i - 1) ≡ false
   pub weighed : (i : ℕ) → i < n → Within 1 maxWeight (weight i)
   pub rising : (i : ℕ) → suc i < n → item i < item (suc i)
 
-module _ (items : ℕ) (withdrawn : List Bool) (item weight : ℕ → ℕ) where
+module _ (items : ℕ) (withdrawn : List ℕ) (item weight : ℕ → ℕ) where
   -- What is served of one edge
   record Fine (i : ℕ) : Type 0 where
     known : Within 1 items (item i)
-    here : getD withdrawn (item i - 1) false ≡ false
+    here : flagAt withdrawn (item i - 1) ≡ false
     weighed : Within 1 maxWeight (weight i)
     ordered : orderTest item i ≡ false
 
@@ -106,7 +106,7 @@ one-is (suc w) h = refl
 
 module _ (item weight : ℕ → ℕ) where
   -- Each cell is 0, or an edge's weight
-  row-all : (P : ℕ → ℕ → Type 0) (n : ℕ) → ((k : ℕ) → P k 0) → ((i : ℕ) → i < n → P (item i - 1) (weight i)) → (k : ℕ) → P k (getD (rowTo item weight n) k 0)
+  pub row-all : (P : ℕ → ℕ → Type 0) (n : ℕ) → ((k : ℕ) → P k 0) → ((i : ℕ) → i < n → P (item i - 1) (weight i)) → (k : ℕ) → P k (getD (rowTo item weight n) k 0)
   unfolding rowTo
   row-all P zero z f k = rw (blank {A = ℕ} maxItems k 0) (z k)
   row-all P (suc n) z f k = set-all P (rowTo item weight n) (item n - 1) (weight n) (f n (omega arith)) (row-all P n z (λ i l. f i (omega arith))) k
@@ -116,7 +116,7 @@ module _ (item weight : ℕ → ℕ) where
   row-length zero = refl
   row-length (suc n) = simp length-set (row-length n)
 
-module _ {items : ℕ} {withdrawn : List Bool} {item weight : ℕ → ℕ} where
+module _ {items : ℕ} {withdrawn : List ℕ} {item weight : ℕ → ℕ} where
   pub row-fits : {n : ℕ} → EdgesAccepted items withdrawn item weight n → RowFits items (rowTo item weight n)
   row-fits {n} a =
       record {
@@ -125,11 +125,11 @@ module _ {items : ℕ} {withdrawn : List Bool} {item weight : ℕ → ℕ} where
         bare = λ k l m. row-all item weight (λ k v. items ≤ k → v ≡ 0) n (λ k l. refl) (λ i h l. absurd (omega (arith, a .known i h .low, a .known i h .high))) k l;
       }
 
-  fewer : {n : ℕ} → EdgesAccepted items withdrawn item weight (suc n) → EdgesAccepted items withdrawn item weight n
+  pub fewer : {n : ℕ} → EdgesAccepted items withdrawn item weight (suc n) → EdgesAccepted items withdrawn item weight n
   fewer a = record { known = λ i l. a .known i (omega arith); here = λ i l. a .here i (omega arith); weighed = λ i l. a .weighed i (omega arith); rising = λ i l. a .rising i (omega arith) }
 
   -- The items before the last are below it
-  below : (n : ℕ) → EdgesAccepted items withdrawn item weight (suc n) → (i : ℕ) → i < n → item i < item n
+  pub below : (n : ℕ) → EdgesAccepted items withdrawn item weight (suc n) → (i : ℕ) → i < n → item i < item n
   below zero a i l = absurd (omega arith)
   below (suc n) a i l = one-more n (λ i. item i < item (suc n)) (λ i h. omega (arith, below n (fewer a) i h, a .rising n (omega arith))) (a .rising n (omega arith)) i l
 

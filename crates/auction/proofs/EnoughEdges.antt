@@ -26,7 +26,7 @@ use Rattle.auction.proofs.EdgesLaw.{EdgesAccepted, served-edges}
 use Rattle.auction.proofs.CallVerdicts.{arrive-spoilt, arrive-full, arrive-refused}
 use Rattle.auction.proofs.Buffers.{edges-as}
 
-module _ (items : ℕ) (withdrawn : List Bool) (item weight : ℕ → ℕ) where
+module _ (items : ℕ) (withdrawn : List ℕ) (item weight : ℕ → ℕ) where
   -- The checks of the first m edges stand before those of the others
   checks-split : (m n i : ℕ) → edgesChecks items withdrawn item weight i (m + n) ≡ edgesChecks items withdrawn item weight i m ++ edgesChecks items withdrawn item weight (i + m) n
   unfolding edgesChecks

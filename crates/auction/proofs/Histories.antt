@@ -10,8 +10,10 @@ use Rattle.bidding.specs.Potential.{edgeCount, potential}
 use Rattle.bidding.specs.Rule.{displaced}
 use Rattle.board.specs.Opening.{opened}
 use Rattle.bidding.specs.Moves.{released}
+use Rattle.auction.specs.Arrive.{arrivedTold}
+use Rattle.auction.specs.Withdraw.{withdrawnTold}
 use Rattle.auction.specs.Demand2.{Leaves, free, held}
-use Rattle.auction.specs.Histories.{edgesAdded, arrivalBids, withdrawalBids, Reached, opens, arrives, withdraws, HistoryDemand2}
+use Rattle.auction.specs.Histories.{edgesAdded, Reached, opens, arrives, withdraws, HistoryDemand2}
 use Rattle.bidding.proofs.Potentials.{potential-within, potential-entered, count-entered}
 use Rattle.bidding.proofs.Chains.{chain-count}
 use Rattle.auction.proofs.EdgesLaw.{row-count, row-length}
@@ -33,7 +35,7 @@ unfolding edgeCount opened
 counted (opens items p q h) = record { sound = opening-sound items p q h; edges = refl; bids = omega arith }
 counted (arrives {b = b} {e = e} {n = n} edges r t h) =
     let c = counted t in
-    arrive-all b edges (λ r. Counted (r .auction) (e + edgesAdded (r .answer) edges) (n + arrivalBids (r .answer)))
+    arrive-all b edges (λ r. Counted (r .auction) (e + edgesAdded (r .answer) edges) (n + arrivedTold (r .answer) .value))
     (λ j. let s = j .after .settles in
     record {
       sound = j .after .sound;
@@ -44,7 +46,7 @@ counted (arrives {b = b} {e = e} {n = n} edges r t h) =
     r h
 counted (withdraws {b = b} {e = e} {n = n} item r t h) =
     let c = counted t in
-    withdraw-all b item (λ r. Counted (r .auction) e (n + withdrawalBids (r .answer)))
+    withdraw-all b item (λ r. Counted (r .auction) e (n + withdrawnTold (r .answer) .value))
     (λ j. record { sound = j .after; edges = leaves-count (j .leaves) ∙ c .edges; bids = omega (arith, c .bids, j .counted) })
     (λ q. rw (add-zero n) c)
     r h
@@ -52,4 +54,4 @@ counted (withdraws {b = b} {e = e} {n = n} item r t h) =
 pub history-demand-2 : HistoryDemand2
 history-demand-2 b e n t =
     let c = counted t in
-    record { sound = c .sound; bids = rw (c .edges) at (le-trans (c .bids) (potential-within b)) }
+    record { sound = c .sound; edges = c .edges; bids = rw (c .edges) at (le-trans (c .bids) (potential-within b)) }

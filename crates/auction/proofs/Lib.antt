@@ -7,8 +7,10 @@ pub mod EdgeTests
 pub mod EdgeVerdicts
 pub mod EdgesLaw
 pub mod EnoughEdges
+pub mod Entries
 pub mod Gathered
 pub mod Histories
 pub mod Opening
 pub mod ReadOuts
 pub mod Rows
+pub mod Told

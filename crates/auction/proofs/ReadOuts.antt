@@ -1,5 +1,5 @@
 -- What a read-out writes.
-use mathlib.Core.Path.{_≡_, refl, sym, ap, _∙_}
+use mathlib.Core.Path.{_≡_, refl, sym, ap, subst, _∙_}
 use Prim.Native.Nat.{ℕ, _+_, _*_, _≤_}
 use native.Mathlib.Omega.{arith}
 use lib.ListN.{length}
@@ -21,6 +21,7 @@ use Rattle.board.proofs.Tests.{room-decides}
 use Rattle.board.proofs.Written.{written-length, written-in, written-past}
 use Rattle.refusals.proofs.Verdicts.{served-next}
 use Rattle.auction.proofs.Demand2.{sound-demand-2}
+use Rattle.auction.proofs.Told.{read-written}
 
 -- Lists with room for it, of a sound board
 reads : (b : Auction) (l : Lists) → Sound b → b .market .arrived ≤ length (l .plan) → b .market .items ≤ length (l .prices) → b .market .arrived ≤ length (l .gains) →
@@ -45,7 +46,7 @@ reads b l sound room₁ room₂ room₃ =
 
 pub read-out-demand-2 : ReadOutDemand2
 unfolding readOutOf readOutBy
-read-out-demand-2 b l = go (firstOf (readOutChecks b l)) refl
+read-out-demand-2 b l after a = subst (Reads b l) (a .lists) (go (firstOf (readOutChecks b l)) refl (read-written _ (a .tells)))
   where
     go : (v : Verdict) → firstOf (readOutChecks b l) ≡ v → readOutBy b l v .answer ≡ ReadOut.Written → Reads b l (readOutBy b l v .lists)
     go (Refused r) e h = let z : _≡_ {A = ℕ} 0 1 = cc in absurd (omega arith)

@@ -2,7 +2,7 @@
 use mathlib.Core.Path.{_≡_}
 use mathlib.Core.Bool.{true, not}
 use mathlib.Core.List.{List, _∷_}
-use Prim.Native.Nat.{ℕ, suc, _-_, _≤_}
+use Prim.Native.Nat.{ℕ, suc, _-_, _≤_, _<_}
 use lib.ListN.{length}
 use lib.Dec.{leb}
 use Rattle.board.specs.declared.record.Auction.{Auction}
@@ -10,6 +10,8 @@ use Rattle.board.specs.declared.record.Edge.{Edge}
 use Rattle.refusals.specs.declared.Refusal.{Refusal}
 use Rattle.refusals.specs.declared.Refusal.the-variants.{Full, Unknown, Gone, Worth, Order, Spoilt}
 use Rattle.refusals.specs.declared.Verdict.{Verdict}
+use Rattle.refusals.specs.declared.Told.{Told}
+use Rattle.refusals.specs.Told.{served, refused}
 use Rattle.auction.specs.declared.arrive.Arrived.{Arrived}
 use Rattle.auction.specs.declared.arrive.Arrival.{Arrival}
 use Rattle.board.specs.Limits.{maxBidders, maxWeight}
@@ -22,19 +24,20 @@ use Rattle.refusals.specs.Demand1.{Check, checkFor, firstOf}
 use Rattle.board.specs.Ranges.{Within}
 use Rattle.bidding.specs.Moves.{arrivedOf}
 
+-- The rows of the table, of edges that the list has: edge i + 1 is cell i
 pub data ArriveMet (b : Auction) (edges : List Edge) : Refusal → Type 0 where
   -- "the board handed in is not sound"
   spoilt : (Sound b → ⊥) → ArriveMet b edges Spoilt
   -- "128 batches have arrived"
   full : maxBidders ≤ b .market .arrived → ArriveMet b edges Full
   -- "kettle not 1 to k"
-  unknown : {i : ℕ} → (Within 1 (b .market .items) (itemIn edges i) → ⊥) → ArriveMet b edges (Unknown (suc i))
+  unknown : {i : ℕ} → i < length edges → (Within 1 (b .market .items) (itemIn edges i) → ⊥) → ArriveMet b edges (Unknown (suc i))
   -- "kettle withdrawn"
-  gone : {i : ℕ} → withdrawnAt b (itemIn edges i - 1) ≡ true → ArriveMet b edges (Gone (suc i))
+  gone : {i : ℕ} → i < length edges → withdrawnAt b (itemIn edges i - 1) ≡ true → ArriveMet b edges (Gone (suc i))
   -- "not 1 to 1,000,000"
-  worth : {i : ℕ} → (Within 1 maxWeight (weightIn edges i) → ⊥) → ArriveMet b edges (Worth (suc i))
+  worth : {i : ℕ} → i < length edges → (Within 1 maxWeight (weightIn edges i) → ⊥) → ArriveMet b edges (Worth (suc i))
   -- "kettle not above the entry before"
-  order : {i : ℕ} → itemIn edges (suc i) ≤ itemIn edges i → ArriveMet b edges (Order (suc (suc i)))
+  order : {i : ℕ} → suc i < length edges → itemIn edges (suc i) ≤ itemIn edges i → ArriveMet b edges (Order (suc (suc i)))
 
 -- The checks after that of soundness, and all
 unfoldable pub arriveRest : Auction → List Edge → List Check
@@ -58,3 +61,14 @@ arriveBy b edges (Verdict.Refused r) = done (arrival b (Arrived.Refused r))
 
 unfoldable pub arriveOf : Auction → List Edge → Outcome Arrival
 arriveOf b edges = arriveBy b edges (firstOf (arriveChecks b edges))
+
+-- What is told: "Arrive and withdraw return the number of bids made"
+abbrev pub arrivedTold : Arrived → Told
+arrivedTold (Arrived.Bids n) = served n
+arrivedTold (Arrived.Refused r) = refused r
+
+-- An arrival leaves the board c, and tells t
+pub record ArriveAnswers (b : Auction) (edges : List Edge) (c : Auction) (t : Told) : Type 0 where
+  pub answer : Arrived
+  pub outcome : arriveOf b edges ≡ done (arrival c answer)
+  pub tells : arrivedTold answer ≡ t

@@ -1,47 +1,64 @@
--- Demand 1 of each call: it refuses by the table, in its order, and keeps every byte; otherwise it serves.
+-- Demand 1 of each call: "If a call meets a condition in the table of refusals, it gives that number by the stated order of checks, and the board and
+-- each lent list stay byte for byte as they were; otherwise it is served." Demand1 says it of any call; what a call answers is told in numbers.
 use mathlib.Core.Path.{_≡_}
-use mathlib.Core.List.{List}
-use Prim.Native.Nat.{ℕ}
+use mathlib.Core.List.{List, [], _∷_}
+use Prim.Native.Nat.{ℕ, zero, suc}
+use lib.ListN.{length}
 use Rattle.board.specs.declared.record.Auction.{Auction}
 use Rattle.board.specs.declared.record.Edge.{Edge}
-use Rattle.board.specs.declared.opening.Opened.{Opened}
-use Rattle.auction.specs.declared.arrive.Arrived.{Arrived}
-use Rattle.auction.specs.declared.withdraw.Withdrawn.{Withdrawn}
-use Rattle.auction.specs.declared.read_out.ReadOut.{ReadOut}
-use Rattle.bidding.specs.Rule.{done}
-use Rattle.refusals.specs.Demand1.{Demand1}
-use Rattle.board.specs.Opening.{OpenMet, openChecks, opened, openOf}
-use Rattle.auction.specs.Arrive.{ArriveMet, arriveChecks, arriveOf}
-use Rattle.auction.specs.Withdraw.{WithdrawMet, withdrawChecks, withdrawOf}
-use Rattle.auction.specs.ReadOut.{readOutOf, outcome}
+use Rattle.refusals.specs.Codes.{Code, code}
+use Rattle.refusals.specs.Told.{served, refused}
+use Rattle.refusals.specs.Demand1.{codesOf, Demand1}
+use Rattle.board.specs.Opening.{OpenMet, openChecks, opened, OpenAnswers}
+use Rattle.auction.specs.Arrive.{ArriveMet, arriveChecks, ArriveAnswers}
+use Rattle.auction.specs.Withdraw.{WithdrawMet, withdrawChecks, WithdrawAnswers}
+use Rattle.auction.specs.ReadOut.{ReadOutAnswers}
 use Rattle.board.specs.Lent.{ReadOutMet, readOutChecks, Lists}
 
+-- A refused opening has no board to keep
 abbrev pub OpenDemand1 : Type 0
 OpenDemand1 =
     (items p q : ℕ) →
     Demand1 (OpenMet items p q) (openChecks items p q)
-    (λ r. openOf items p q ≡ record { auction = opened 0 0 0; answer = Opened.Refused r })
-    (openOf items p q ≡ record { auction = opened items p q; answer = Opened.Ready })
+    (λ r. OpenAnswers items p q (opened 0 0 0) (refused r))
+    (OpenAnswers items p q (opened items p q) (served 0))
 
 -- Served, an arrival answers a number of bids
 abbrev pub ArriveDemand1 : Type 0
 ArriveDemand1 =
     (b : Auction) (edges : List Edge) →
     Demand1 (ArriveMet b edges) (arriveChecks b edges)
-    (λ r. arriveOf b edges ≡ done (record { auction = b; answer = Arrived.Refused r }))
-    ((c : Auction) × (n : ℕ) × (arriveOf b edges ≡ done (record { auction = c; answer = Arrived.Bids n })))
+    (λ r. ArriveAnswers b edges b (refused r))
+    ((c : Auction) × (n : ℕ) × ArriveAnswers b edges c (served n))
 
 abbrev pub WithdrawDemand1 : Type 0
 WithdrawDemand1 =
     (b : Auction) (item : ℕ) →
     Demand1 (WithdrawMet b item) (withdrawChecks b item)
-    (λ r. withdrawOf b item ≡ done (record { auction = b; answer = Withdrawn.Refused r }))
-    ((c : Auction) × (n : ℕ) × (withdrawOf b item ≡ done (record { auction = c; answer = Withdrawn.Bids n })))
+    (λ r. WithdrawAnswers b item b (refused r))
+    ((c : Auction) × (n : ℕ) × WithdrawAnswers b item c (served n))
 
 -- A read-out takes the board by value, so that the caller's is as it was
 abbrev pub ReadOutDemand1 : Type 0
 ReadOutDemand1 =
     (b : Auction) (l : Lists) →
     Demand1 (ReadOutMet b l) (readOutChecks b l)
-    (λ r. readOutOf b l ≡ outcome (ReadOut.Refused r) l)
-    (readOutOf b l .answer ≡ ReadOut.Written)
+    (λ r. ReadOutAnswers b l l (refused r))
+    ((after : Lists) × ReadOutAnswers b l after (served 0))
+
+-- ---- The order of the checks, in numbers and places
+
+-- "then entry by entry 4, 5, 6, 7": of n entries, the first of which is entry i
+abbrev pub entryCodes : ℕ → ℕ → List Code
+entryCodes i zero = []
+entryCodes i (suc n) = code 4 i ∷ code 5 i ∷ code 6 i ∷ code 7 i ∷ entryCodes (suc i) n
+
+pub record CallOrders : Type 0 where
+  -- "Order: open 1, 2."
+  pub opens : (items p q : ℕ) → codesOf (openChecks items p q) ≡ code 1 0 ∷ code 2 0 ∷ []
+  -- "Arrive 13, 3, then entry by entry 4, 5, 6, 7." "Entries count from 1."
+  pub arrives : (b : Auction) (edges : List Edge) → codesOf (arriveChecks b edges) ≡ code 13 0 ∷ code 3 0 ∷ entryCodes 1 (length edges)
+  -- "Withdraw 13, 4, 5."
+  pub withdraws : (b : Auction) (item : ℕ) → codesOf (withdrawChecks b item) ≡ code 13 0 ∷ code 4 0 ∷ code 5 0 ∷ []
+  -- "Read-out and exact 13, 8."
+  pub reads : (b : Auction) (l : Lists) → codesOf (readOutChecks b l) ≡ code 13 0 ∷ code 8 0 ∷ []

@@ -1,4 +1,4 @@
--- Demand 2: exactly the bids of the rule; the sum and the share. The count of bids over every history is in Histories.
+-- Demand 2: the bids of the rule, the sum and the share. The count of bids over every history is in Histories.
 use mathlib.Core.Path.{_≡_}
 use mathlib.Core.List.{List}
 use Prim.Native.Nat.{ℕ, _+_, _-_, _*_, _≤_, _<_}
@@ -9,20 +9,18 @@ use Rattle.duality.specs.Lists.{cells}
 use Rattle.board.specs.declared.record.Auction.{Auction}
 use Rattle.board.specs.declared.record.Edge.{Edge}
 use Rattle.board.specs.declared.record.Holder.the-variants.{Held, Free}
-use Rattle.auction.specs.declared.arrive.Arrived.{Arrived}
 use Rattle.auction.specs.declared.arrive.Arrival.{Arrival}
-use Rattle.auction.specs.declared.withdraw.Withdrawn.{Withdrawn}
 use Rattle.auction.specs.declared.withdraw.Withdrawal.{Withdrawal}
-use Rattle.auction.specs.declared.read_out.ReadOut.{ReadOut}
 use Rattle.board.specs.Cells.{priceAt, gainAt, holderAt, holderOf}
-use Rattle.board.specs.Live.{live, matchingOf, matchingWeight}
+use Rattle.board.specs.Live.{live, matchingOf, matchingWeight, edgesOf}
+use Rattle.refusals.specs.Told.{served}
 use Rattle.board.specs.Sound.{Sound}
 use Rattle.bidding.specs.Rule.{Chain, displaced, done}
 use Rattle.auction.specs.Edges.{itemIn, weightIn, rowTo}
-use Rattle.auction.specs.Arrive.{arriveOf}
+use Rattle.auction.specs.Arrive.{arriveOf, ArriveAnswers}
 use Rattle.bidding.specs.Moves.{entered, released}
-use Rattle.auction.specs.Withdraw.{withdrawOf}
-use Rattle.auction.specs.ReadOut.{readOutOf}
+use Rattle.auction.specs.Withdraw.{withdrawOf, WithdrawAnswers}
+use Rattle.auction.specs.ReadOut.{ReadOutAnswers}
 use Rattle.board.specs.Lent.{Lists}
 
 -- ---- Every call ends: the computed chain is never spent, on any input
@@ -33,17 +31,19 @@ ArriveEnds = (b : Auction) (edges : List Edge) → (r : Arrival) × (arriveOf b 
 abbrev pub WithdrawEnds : Type 0
 WithdrawEnds = (b : Auction) (item : ℕ) → (r : Withdrawal) × (withdrawOf b item ≡ done r)
 
--- ---- "exactly the bids of the rule, the plan, prices and gains they give, their number returned"; and the board after is sound
+-- ---- "each accepted call makes the bids of the paper's rule, no more and no fewer, and leaves the plan, prices and gains they give": the rule's own
+-- chain, its length returned; the entries of the board; and the board after is sound
 
+-- "one list of entries": the new bidder's edges are the list, and the other bidders' are as they were
 pub record Arrives (b : Auction) (edges : List Edge) (c : Auction) (n : ℕ) : Type 0 where
   pub before : Sound b
   pub chain : Chain (entered b (rowTo (itemIn edges) (weightIn edges) (length edges))) (b .market .arrived) c n
+  pub entries : edgesOf c (b .market .arrived) ≡ edges
+  pub others : (i : ℕ) → i < b .market .arrived → edgesOf c i ≡ edgesOf b i
   pub after : Sound c
 
 abbrev pub ArriveDemand2 : Type 0
-ArriveDemand2 =
-    (b c : Auction) (edges : List Edge) (n : ℕ) →
-    arriveOf b edges ≡ done (record { auction = c; answer = Arrived.Bids n }) → Arrives b edges c n
+ArriveDemand2 = (b c : Auction) (edges : List Edge) (n : ℕ) → ArriveAnswers b edges c (served n) → Arrives b edges c n
 
 -- The item's holder, if any, begins a chain; where nobody held it there is no bid
 pub data Leaves (b : Auction) (k : ℕ) : Auction → ℕ → Type 0 where
@@ -53,12 +53,11 @@ pub data Leaves (b : Auction) (k : ℕ) : Auction → ℕ → Type 0 where
 pub record Withdraws (b : Auction) (item : ℕ) (c : Auction) (n : ℕ) : Type 0 where
   pub before : Sound b
   pub leaves : Leaves b (item - 1) c n
+  pub others : (i : ℕ) → edgesOf c i ≡ edgesOf b i
   pub after : Sound c
 
 abbrev pub WithdrawDemand2 : Type 0
-WithdrawDemand2 =
-    (b c : Auction) (item n : ℕ) →
-    withdrawOf b item ≡ done (record { auction = c; answer = Withdrawn.Bids n }) → Withdraws b item c n
+WithdrawDemand2 = (b c : Auction) (item n : ℕ) → WithdrawAnswers b item c (served n) → Withdraws b item c n
 
 -- ---- On every sound board, also one that no history reaches
 
@@ -67,9 +66,9 @@ abbrev pub Busy : Auction → Type 0
 Busy b = (i k : ℕ) → i < b .market .arrived → matchingOf b i ≡ 0 → k < b .market .items → 0 < live b i k → holderOf (holderAt b k) ≡ Free → ⊥
 
 pub record SoundBoard (b : Auction) : Type 0 where
-  -- "Prices plus gains = (q + p) × worth"
+  -- "Prices plus gains total q + p times the plan's worth"
   pub sum : total (b .market .arrived) (b .market .items) (priceAt b) (gainAt b) ≡ (b .market .slack .q + b .market .slack .p) * matchingWeight b
-  -- "worth × (q + p) ≥ (q - p) × any plan's worth"
+  -- "worth times q + p is at least q - p times the worth of every plan on the live sheet"
   pub share : (other : ℕ → ℕ) → IsMatching (b .market .arrived) (b .market .items) (live b) other →
       (b .market .slack .q - b .market .slack .p) * weightOf (b .market .arrived) (live b) other ≤ (b .market .slack .q + b .market .slack .p) * matchingWeight b
   pub busy : Busy b
@@ -92,4 +91,4 @@ pub record Reads (b : Auction) (before after : Lists) : Type 0 where
       (b .market .slack .q + b .market .slack .p) * weightOf (b .market .arrived) (live b) (cells (after .plan))
 
 abbrev pub ReadOutDemand2 : Type 0
-ReadOutDemand2 = (b : Auction) (l : Lists) → readOutOf b l .answer ≡ ReadOut.Written → Reads b l (readOutOf b l .lists)
+ReadOutDemand2 = (b : Auction) (before after : Lists) → ReadOutAnswers b before after (served 0) → Reads b before after

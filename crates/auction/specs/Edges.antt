@@ -8,7 +8,7 @@ use Rattle.board.specs.declared.record.Edge.{Edge}
 use Rattle.auction.specs.declared.edges.EdgeBuffer.{EdgeBuffer}
 use Rattle.refusals.specs.declared.Refusal.the-variants.{Unknown, Gone, Worth, Order}
 use Rattle.board.specs.Limits.{maxItems, maxWeight, maxEdges}
-use Rattle.board.specs.Cells.{edge}
+use Rattle.board.specs.Cells.{edge, flagAt}
 use Rattle.refusals.specs.Demand1.{Check, checkFor}
 use Rattle.board.specs.Ranges.{withinTest}
 
@@ -25,14 +25,14 @@ orderTest item zero = false
 orderTest item (suc i) = leb (item (suc i)) (item i)
 
 -- "entry by entry 4, 5, 6, 7": the checks of one edge, and of n edges from cell i on. `item` and `weight` read the edges' cells
-unfoldable pub edgeChecks : ℕ → List Bool → (ℕ → ℕ) → (ℕ → ℕ) → ℕ → List Check
+unfoldable pub edgeChecks : ℕ → List ℕ → (ℕ → ℕ) → (ℕ → ℕ) → ℕ → List Check
 edgeChecks items withdrawn item weight i =
     checkFor (Unknown (suc i)) (not (withinTest items (item i))) ∷
-    (checkFor (Gone (suc i)) (getD withdrawn (item i - 1) false) ∷
+    (checkFor (Gone (suc i)) (flagAt withdrawn (item i - 1)) ∷
     (checkFor (Worth (suc i)) (not (withinTest maxWeight (weight i))) ∷
     (checkFor (Order (suc i)) (orderTest item i) ∷ [])))
 
-unfoldable pub edgesChecks : ℕ → List Bool → (ℕ → ℕ) → (ℕ → ℕ) → ℕ → ℕ → List Check
+unfoldable pub edgesChecks : ℕ → List ℕ → (ℕ → ℕ) → (ℕ → ℕ) → ℕ → ℕ → List Check
 edgesChecks items withdrawn item weight i zero = []
 edgesChecks items withdrawn item weight i (suc n) =
     edgeChecks items withdrawn item weight i ++ edgesChecks items withdrawn item weight (suc i) n

@@ -9,39 +9,33 @@ use Rattle.board.specs.declared.record.Edge.{Edge}
 use Rattle.board.specs.declared.opening.Opened.{Opened}
 use Rattle.auction.specs.declared.arrive.Arrived.{Arrived}
 use Rattle.auction.specs.declared.arrive.Arrival.{Arrival}
-use Rattle.auction.specs.declared.withdraw.Withdrawn.{Withdrawn}
 use Rattle.auction.specs.declared.withdraw.Withdrawal.{Withdrawal}
 use Rattle.board.specs.Sound.{Sound}
 use Rattle.bidding.specs.Rule.{done}
+use Rattle.bidding.specs.Potential.{edgeCount}
 use Rattle.board.specs.Opening.{opened, openOf}
-use Rattle.auction.specs.Arrive.{arriveOf}
-use Rattle.auction.specs.Withdraw.{withdrawOf}
+use Rattle.auction.specs.Arrive.{arriveOf, arrivedTold}
+use Rattle.auction.specs.Withdraw.{withdrawOf, withdrawnTold}
 
--- The edges that an arrival adds, and the bids that it returns: none where it is refused
+-- The edges that an arrival adds: none where it is refused
 abbrev pub edgesAdded : Arrived → List Edge → ℕ
 edgesAdded (Arrived.Bids n) edges = length edges
 edgesAdded (Arrived.Refused r) edges = 0
 
-abbrev pub arrivalBids : Arrived → ℕ
-arrivalBids (Arrived.Bids n) = n
-arrivalBids (Arrived.Refused r) = 0
-
-abbrev pub withdrawalBids : Withdrawn → ℕ
-withdrawalBids (Withdrawn.Bids n) = n
-withdrawalBids (Withdrawn.Refused r) = 0
-
--- The board after a history, the edges accepted in it, and the sum of the bid counts that its calls returned. Calls that only read take the
+-- The board after a history, the edges accepted in it, and the sum of the bid counts that its calls returned (a refused call tells value 0). Calls that only read take the
 -- board by value, so a history with them reaches the same
 pub data Reached : Auction → ℕ → ℕ → Type 0 where
   opens : (items p q : ℕ) → openOf items p q ≡ record { auction = opened items p q; answer = Opened.Ready } → Reached (opened items p q) 0 0
   arrives : {b : Auction} {e n : ℕ} (edges : List Edge) (r : Arrival) → Reached b e n → arriveOf b edges ≡ done r →
-      Reached (r .auction) (e + edgesAdded (r .answer) edges) (n + arrivalBids (r .answer))
+      Reached (r .auction) (e + edgesAdded (r .answer) edges) (n + arrivedTold (r .answer) .value)
   withdraws : {b : Auction} {e n : ℕ} (item : ℕ) (r : Withdrawal) → Reached b e n → withdrawOf b item ≡ done r →
-      Reached (r .auction) e (n + withdrawalBids (r .answer))
+      Reached (r .auction) e (n + withdrawnTold (r .answer) .value)
 
 -- "Over every history from opening, the bids number at most the entries ever accepted times the whole part of (q - 1)/p"
 pub record History (b : Auction) (e n : ℕ) : Type 0 where
   pub sound : Sound b
+  -- The entries ever accepted are those that stand on the board, withdrawn items' too
+  pub edges : edgeCount b ≡ e
   pub bids : n ≤ e * most (b .market .slack .p) (b .market .slack .q)
 
 abbrev pub HistoryDemand2 : Type 0

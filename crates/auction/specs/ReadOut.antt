@@ -1,6 +1,9 @@
 -- Read out: "13, 8".
+use mathlib.Core.Path.{_≡_}
 use Rattle.board.specs.declared.record.Auction.{Auction}
 use Rattle.refusals.specs.declared.Verdict.{Verdict}
+use Rattle.refusals.specs.declared.Told.{Told}
+use Rattle.refusals.specs.Told.{served, refused}
 use Rattle.auction.specs.declared.read_out.ReadOut.{ReadOut}
 use Rattle.board.specs.Cells.{priceAt, gainAt}
 use Rattle.board.specs.Live.{matchingOf}
@@ -24,3 +27,13 @@ readOutBy b l (Verdict.Refused r) = outcome (ReadOut.Refused r) l
 
 unfoldable pub readOutOf : Auction → Lists → ReadOutcome
 readOutOf b l = readOutBy b l (firstOf (readOutChecks b l))
+
+-- What is told: "read-out returns nothing but its lists"
+abbrev pub readOutTold : ReadOut → Told
+readOutTold ReadOut.Written = served 0
+readOutTold (ReadOut.Refused r) = refused r
+
+-- A read-out leaves the lists after, and tells t
+pub record ReadOutAnswers (b : Auction) (before after : Lists) (t : Told) : Type 0 where
+  pub lists : readOutOf b before .lists ≡ after
+  pub tells : readOutTold (readOutOf b before .answer) ≡ t

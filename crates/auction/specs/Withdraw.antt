@@ -7,6 +7,8 @@ use Rattle.board.specs.declared.record.Auction.{Auction}
 use Rattle.refusals.specs.declared.Refusal.{Refusal}
 use Rattle.refusals.specs.declared.Refusal.the-variants.{Unknown, Gone, Spoilt}
 use Rattle.refusals.specs.declared.Verdict.{Verdict}
+use Rattle.refusals.specs.declared.Told.{Told}
+use Rattle.refusals.specs.Told.{served, refused}
 use Rattle.auction.specs.declared.withdraw.Withdrawn.{Withdrawn}
 use Rattle.auction.specs.declared.withdraw.Withdrawal.{Withdrawal}
 use Rattle.board.specs.Cells.{withdrawnAt}
@@ -41,3 +43,14 @@ withdrawBy b item (Verdict.Refused r) = done (withdrawal b (Withdrawn.Refused r)
 
 unfoldable pub withdrawOf : Auction → ℕ → Outcome Withdrawal
 withdrawOf b item = withdrawBy b item (firstOf (withdrawChecks b item))
+
+-- What is told: "Arrive and withdraw return the number of bids made"
+abbrev pub withdrawnTold : Withdrawn → Told
+withdrawnTold (Withdrawn.Bids n) = served n
+withdrawnTold (Withdrawn.Refused r) = refused r
+
+-- A withdrawal leaves the board c, and tells t
+pub record WithdrawAnswers (b : Auction) (item : ℕ) (c : Auction) (t : Told) : Type 0 where
+  pub answer : Withdrawn
+  pub outcome : withdrawOf b item ≡ done (withdrawal c answer)
+  pub tells : withdrawnTold answer ≡ t

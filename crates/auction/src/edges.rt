@@ -36,7 +36,7 @@ fn is_unordered(items: &[u64; Auction::MAX_EDGES], i: usize) -> bool
 fn edge_verdict<'a>(
     items: &'a [u64; Auction::MAX_EDGES],
     weights: &'a [u64; Auction::MAX_EDGES],
-    withdrawn: &'a [bool; Auction::MAX_ITEMS],
+    withdrawn: &'a [u8; Auction::MAX_ITEMS],
     known: u64,
     i: usize,
 ) -> Verdict
@@ -49,7 +49,7 @@ fn edge_verdict<'a>(
         return Verdict::Refused(Refusal::Unknown(place));
     }
     let k = (item - 1) as usize;
-    if withdrawn[k] {
+    if withdrawn[k] != 0 {
         return Verdict::Refused(Refusal::Gone(place));
     }
     if !is_within(Auction::MAX_WEIGHT, weights[i]) {
@@ -65,7 +65,7 @@ fn edge_verdict<'a>(
 pub(crate) fn edges_verdict<'a>(
     items: &'a [u64; Auction::MAX_EDGES],
     weights: &'a [u64; Auction::MAX_EDGES],
-    withdrawn: &'a [bool; Auction::MAX_ITEMS],
+    withdrawn: &'a [u8; Auction::MAX_ITEMS],
     known: u64,
     count: usize,
 ) -> Verdict

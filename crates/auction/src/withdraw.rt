@@ -48,7 +48,7 @@ pub fn withdraw_in(
         };
     }
     let k = (item - 1) as usize;
-    if market.withdrawn[k] {
+    if market.withdrawn[k] != 0 {
         return WithdrawalIn {
             market,
             state,

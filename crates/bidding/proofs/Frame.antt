@@ -7,7 +7,7 @@ use Prim.Native.Nat.{ℕ, zero, suc, _+_, _-_, _*_, _≤_, _<_}
 use native.Mathlib.Nat.{lt-irrefl, mul-le-mul, le-refl}
 use native.Mathlib.Decide.{ℕ-discrete, decLe, decLt}
 use native.Mathlib.Omega.{arith}
-use lib.ListN.{length, set, List·getD-eq-default}
+use lib.ListN.{length, getD, set, List·getD-eq-default}
 use lib.Seq.{getD-set-same, getD-set-other, set-out}
 use Rattle.board.proofs.Filed.{other-row, new-row}
 use Rattle.duality.specs.Sums.{upd}
@@ -32,6 +32,7 @@ pub record Framed (b : Auction) : Type 0 where
   pub arrived : b .market .arrived ≤ maxBidders
   pub slack : SlackIn 1 (b .market .slack .p) (b .market .slack .q)
   pub weights : (i k : ℕ) → i < b .market .arrived → k < b .market .items → weightAt b i k ≤ maxWeight
+  pub flags : (k : ℕ) → k < b .market .items → getD (b .market .withdrawn) k 0 ≤ 1
   pub unused : Unused b
   pub names : Names (b .state .holder) (b .market .arrived) (b .market .items) (matchingOf b)
   pub withdrawn : (k : ℕ) → k < b .market .items → withdrawnAt b k ≡ true → priceAt b k ≡ 0
@@ -59,6 +60,7 @@ module _ {waits : ℕ → Type 0} {b : Auction} where
         arrived = s .arrived;
         slack = s .slack;
         weights = s .weights;
+        flags = s .flags;
         unused = s .unused;
         names = named (s .holders);
         withdrawn = s .withdrawn;
@@ -83,6 +85,7 @@ module _ {waits : ℕ → Type 0} {b : Auction} where
         arrived = f .arrived;
         slack = f .slack;
         weights = f .weights;
+        flags = f .flags;
         unused = f .unused;
         holders = f .names .has;
         matches = s .matches;

@@ -34,6 +34,7 @@ framed-displaced {b} f x =
       arrived = f .arrived;
       slack = f .slack;
       weights = f .weights;
+      flags = f .flags;
       unused = record {
         price = f .unused .price;
         holder = f .unused .holder;
@@ -76,6 +77,7 @@ module _ {b : Auction} (f : Framed b) {i k : ℕ} (li : i < b .market .arrived) 
           arrived = f .arrived;
           slack = f .slack;
           weights = f .weights;
+          flags = f .flags;
           unused = record {
             price = λ j l m. scaled-other (b .state .price) k y j (omega arith) ∙ f .unused .price j l m;
             holder = λ j l m. getD-set-other (b .state .holder) k j (suc i) 0 (omega arith) ∙ f .unused .holder j l m;

@@ -124,5 +124,5 @@ pub potential-released : {b : Auction} → Framed b → {k : ℕ} → k < b .mar
 unfolding potential released
 potential-released {b} f {k} lk =
     sumTo-le (b .market .arrived) _ _ (λ i _. sumTo-le (b .market .items) _ _ (λ j _. by-cases (ℕ-discrete j k)
-    (λ (e : j ≡ k). rw (e, getD-set-same (b .market .withdrawn) k true false (omega arith)) (part-gone _ _ (weightAt b i k) (withdrawnAt b k) (priceAt b k) _))
-    (λ ne. rw (getD-set-other (b .market .withdrawn) k j true false ne, scaled-other (b .state .price) k 0 j ne) (le-refl _))))
+    (λ (e : j ≡ k). rw (e, getD-set-same (b .market .withdrawn) k 1 0 (omega arith)) (part-gone _ _ (weightAt b i k) (withdrawnAt b k) (priceAt b k) _))
+    (λ ne. rw (getD-set-other (b .market .withdrawn) k j 1 0 ne, scaled-other (b .state .price) k 0 j ne) (le-refl _))))

@@ -1,7 +1,7 @@
 -- An arrival and a withdrawal begin a chain: the board is sound but for the bidder that is to bid.
-use mathlib.Core.Path.{_≡_, refl, sym, ap, _∙_, fun-ext}
+use mathlib.Core.Path.{_≡_, refl, ap, _∙_, fun-ext}
 use mathlib.Core.Logic.{_≢_, _⊎_, inl, inr, ⊎-elim, by-cases}
-use mathlib.Core.Bool.{true, false}
+use mathlib.Core.Bool.{true}
 use mathlib.Core.List.{List}
 use Prim.Native.Nat.{ℕ, zero, suc, _+_, _≤_, _<_, _*_}
 use native.Mathlib.Nat.{le-refl}
@@ -16,7 +16,7 @@ use Rattle.duality.proofs.Exchange.{Holder}
 use Rattle.board.specs.declared.record.Auction.{Auction}
 use Rattle.board.specs.declared.record.Holder.the-variants.{Held, Free}
 use Rattle.board.specs.Limits.{maxBidders, maxWeight, maxItems}
-use Rattle.board.specs.Cells.{scaled, priceAt, gainAt, holderAt, holderOf, rowAt}
+use Rattle.board.specs.Cells.{scaled, flagAt, priceAt, gainAt, holderAt, holderOf, rowAt}
 use Rattle.board.specs.Live.{liveIn, live, matchingOf}
 use Rattle.board.specs.Sound.{Sound}
 use Rattle.bidding.specs.Rule.{displaced}
@@ -46,6 +46,7 @@ arrival-sound {waits} {b} {row} s room r =
       arrived = omega arith;
       slack = s .slack;
       weights = λ i k l lk. each (λ ws. getD ws k 0 ≤ maxWeight) i l (λ h. s .weights i k h lk) (r .limit k lk);
+      flags = s .flags;
       unused = record {
         price = s .unused .price;
         holder = s .unused .holder;
@@ -98,8 +99,8 @@ pub live-released : (b : Auction) (k : ℕ) → k < length (b .market .withdrawn
 unfolding released
 live-released b k l =
     fun-ext (λ i. fun-ext (upd-all (λ j v. live (released b k) i j ≡ v) k 0 (live b i)
-    (rw (getD-set-same (b .market .withdrawn) k true false l))
-    (λ j ne. rw (getD-set-other (b .market .withdrawn) k j true false ne))))
+    (rw (getD-set-same (b .market .withdrawn) k 1 0 l))
+    (λ j ne. rw (getD-set-other (b .market .withdrawn) k j 1 0 ne))))
 
 module _ {b : Auction} (f : Framed b) {k : ℕ} (lk : k < b .market .items) {x : ℕ} (h : Holder (b .market .arrived) k x (matchingOf b)) where
   names-released : Names (set (b .state .holder) k 0) (b .market .arrived) (b .market .items) (upd x 0 (matchingOf b))
@@ -113,23 +114,26 @@ module _ {b : Auction} (f : Framed b) {k : ℕ} (lk : k < b .market .items) {x :
   unfolding released
   framed-released =
       record {
-        formed = omega (arith, length-set (b .state .price) k (scaled 0), length-set (b .state .holder) k 0, length-set (b .market .withdrawn) k true);
+        formed = omega (arith, length-set (b .state .price) k (scaled 0), length-set (b .state .holder) k 0, length-set (b .market .withdrawn) k 1);
         items = f .items;
         arrived = f .arrived;
         slack = f .slack;
         weights = f .weights;
+        flags = λ j l. by-cases (ℕ-discrete j k)
+            (λ (e : j ≡ k). rw (e, getD-set-same (b .market .withdrawn) k 1 0 (omega arith)) (omega arith))
+            (λ ne. rw (getD-set-other (b .market .withdrawn) k j 1 0 ne) (f .flags j l));
         unused = record {
           price = λ j l m. scaled-other (b .state .price) k 0 j (omega arith) ∙ f .unused .price j l m;
           holder = λ j l m. getD-set-other (b .state .holder) k j 0 0 (omega arith) ∙ f .unused .holder j l m;
-          withdrawn = λ j l m. getD-set-other (b .market .withdrawn) k j true false (omega arith) ∙ f .unused .withdrawn j l m;
+          withdrawn = λ j l m. getD-set-other (b .market .withdrawn) k j 1 0 (omega arith) ∙ f .unused .withdrawn j l m;
           weight = f .unused .weight;
           gain = f .unused .gain;
           row = f .unused .row;
         };
         names = named-by names-released;
-        withdrawn = λ j l. rw (scaled-clear (b .state .price) k) (upd-all (λ j v. j < b .market .items → getD (set (b .market .withdrawn) k true) j false ≡ true → v ≡ 0) k 0 (priceAt b)
+        withdrawn = λ j l. rw (scaled-clear (b .state .price) k) (upd-all (λ j v. j < b .market .items → flagAt (set (b .market .withdrawn) k 1) j ≡ true → v ≡ 0) k 0 (priceAt b)
             (λ l e. refl)
-            (λ j ne l e. f .withdrawn j l (sym (getD-set-other (b .market .withdrawn) k j true false ne) ∙ e))
+            (λ j ne l e. f .withdrawn j l (rw (getD-set-other (b .market .withdrawn) k j 1 0 ne) at e))
             j l);
       }
 

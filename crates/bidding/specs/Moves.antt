@@ -1,5 +1,4 @@
 -- What begins a chain of bids: a new bidder's row, or an item that is released.
-use mathlib.Core.Bool.{true}
 use mathlib.Core.List.{List}
 use Prim.Native.Nat.{ℕ, _+_, _*_}
 use lib.ListN.{set}
@@ -25,7 +24,7 @@ arrivedOf b row = settleOf (fuelOf (entered b row)) (entered b row) (b .market .
 unfoldable pub released : Auction → ℕ → Auction
 released b k =
     auction
-    (record { items = b .market .items; slack = b .market .slack; arrived = b .market .arrived; withdrawn = set (b .market .withdrawn) k true })
+    (record { items = b .market .items; slack = b .market .slack; arrived = b .market .arrived; withdrawn = set (b .market .withdrawn) k 1 })
     (b .weights)
     (record { price = set (b .state .price) k (scaled 0); holder = set (b .state .holder) k 0; gain = b .state .gain })
 

@@ -22,6 +22,7 @@ pub record SoundBut (waits : ℕ → Type 0) (b : Auction) : Type 0 where
   pub arrived : b .market .arrived ≤ maxBidders
   pub slack : SlackIn 1 (b .market .slack .p) (b .market .slack .q)
   pub weights : (i k : ℕ) → i < b .market .arrived → k < b .market .items → weightAt b i k ≤ maxWeight
+  pub flags : (k : ℕ) → k < b .market .items → getD (b .market .withdrawn) k 0 ≤ 1
   pub unused : Unused b
   pub holders : (k i : ℕ) → k < b .market .items → holderAt b k ≡ suc i → (i < b .market .arrived) × (matchingOf b i ≡ suc k)
   pub matches : IsMatching (b .market .arrived) (b .market .items) (live b) (matchingOf b)

@@ -70,7 +70,7 @@ pub fn release(
     let holder = holder_of(state.holder[item]);
     state.price[item] = Scaled(0);
     state.holder[item] = 0;
-    market.withdrawn[item] = true;
+    market.withdrawn[item] = 1;
     let Holder::Held(bidder) = holder else {
         return Moved {
             market,

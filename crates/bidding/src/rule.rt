@@ -77,7 +77,7 @@ fn live_weight(cell: u32, withdrawn: bool) -> Pence
 pub(crate) fn best_open<'a>(
     weights: &'a [u32],
     prices: [Scaled; Auction::MAX_ITEMS],
-    withdrawn: &'a [bool; Auction::MAX_ITEMS],
+    withdrawn: &'a [u8; Auction::MAX_ITEMS],
     items: usize,
     slack: Slack,
 ) -> BestEdge
@@ -90,7 +90,7 @@ pub(crate) fn best_open<'a>(
         best = offer(
             best,
             k,
-            live_weight(weights[k], withdrawn[k]),
+            live_weight(weights[k], withdrawn[k] != 0),
             prices[k],
             slack,
         );

@@ -3,7 +3,6 @@ use mathlib.Core.Path.{_≡_}
 use mathlib.Core.Bool.{true, false}
 use Prim.Native.Nat.{ℕ, _-_}
 use Rattle.refusals.specs.declared.Refusal.the-variants.{Count, Slack}
-use Rattle.refusals.specs.declared.Verdict.the-variants.{Refused}
 use Rattle.board.specs.declared.opening.Opened.{Opened}
 use Rattle.board.specs.Limits.{maxItems}
 use Rattle.refusals.specs.Demand1.{firstOf}

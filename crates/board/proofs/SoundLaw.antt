@@ -6,6 +6,7 @@ use Prim.Native.Nat.{ℕ, zero, suc, _-_, _*_, _≤_, _<_}
 use native.Mathlib.Nat.{mul-zero}
 use native.Mathlib.Decide.{decLt}
 use native.Mathlib.Omega.{arith}
+use lib.ListN.{getD}
 use lib.Dec.{ltb}
 use borrow.Author.Tests.{le-ltb, ltb-false}
 use Rattle.duality.specs.Matching.{IsMatching}
@@ -18,7 +19,7 @@ use Rattle.board.specs.Sound.{Sound, Unused}
 use Rattle.board.specs.SoundTest.{usedBy, SoundTestDecides}
 use Rattle.board.proofs.LiveLaws.{held-names, rising-edges, edges-weighed, weighed-edges}
 use Rattle.board.proofs.Placing.{Holders, holders-decide}
-use Rattle.board.proofs.SoundTests.{formed-decides, limits-decide, Item, items-decide, limit-used, limit-past, used-arrived, used-absent, EdgeAt, row-decides, PairAt, Place, place-decides, Parts, parts-decide}
+use Rattle.board.proofs.SoundTests.{formed-decides, limits-decide, Item, items-decide, flag-used, flag-past, limit-used, limit-past, used-arrived, used-absent, EdgeAt, row-decides, PairAt, Place, place-decides, Parts, parts-decide}
 
 -- A live edge is an edge at an item that is not withdrawn
 pub live-on : (withdrawn : Bool) (w : ℕ) → withdrawn ≡ false → cond withdrawn 0 w ≡ w
@@ -45,20 +46,20 @@ record Read (b : Auction) : Type 0 where
   small : b .market .items ≤ maxItems
   few : b .market .arrived ≤ maxBidders
   holders : Holders (b .state .holder) (b .market .items) (b .market .arrived)
-  items : (k : ℕ) → k < maxItems → Item (ltb k (b .market .items)) (priceAt b k) (holderAt b k) (withdrawnAt b k)
+  items : (k : ℕ) → k < maxItems → Item (ltb k (b .market .items)) (priceAt b k) (holderAt b k) (getD (b .market .withdrawn) k 0)
   edges : (i k : ℕ) → i < maxBidders → k < maxItems → EdgeAt b i k
   places : (i : ℕ) → i < maxBidders → Place b i (matchingOf b i)
 
 module _ (b : Auction) (h : Read b) where
-  past : (k : ℕ) → b .market .items ≤ k → k < maxItems → (holderAt b k ≡ 0) × (withdrawnAt b k ≡ false)
+  past : (k : ℕ) → b .market .items ≤ k → k < maxItems → holderAt b k ≡ 0
   past k l m = h .items k m .unused (le-ltb k (b .market .items) l)
 
   unused : Unused b
   unused =
       record {
-        price = λ k l m. h .items k m .unheld (past k l m .0);
-        holder = λ k l m. past k l m .0;
-        withdrawn = λ k l m. past k l m .1;
+        price = λ k l m. h .items k m .unheld (past k l m);
+        holder = past;
+        withdrawn = λ k l m. omega (arith, h .items k m .flagged, flag-past (b .market .items) k l);
         weight = λ i k n l m.
             omega (arith, h .few, h .edges i k (omega (arith, h .few)) m .light, limit-past (usedBy b i) k (rw (used-arrived b i n) l));
         gain = λ i l n. h .places i n .unplaced (absent-unplaced b (h .holders) i l);
@@ -119,6 +120,7 @@ to b parts =
         h .edges i k (omega (arith, h .few)) (omega (arith, h .small)) .light,
         limit-used (usedBy b i) k (rw (used-arrived b i n) l),
       ));
+      flags = λ k l. omega (arith, h .items k (omega (arith, h .small)) .flagged, flag-used (b .market .items) k l);
       unused = unused b h;
       rising = λ i n. rising-edges (rowAt b i) (b .market .items);
       holders = h .holders;
@@ -184,17 +186,22 @@ module _ (b : Auction) (h : Sound b) where
           let z = absent-unplaced b (h .holders) i a in
           record { unplaced = λ _. h .unused .gain i a n; placed = λ k e. absurd (omega arith) }
 
-  item-at : (k : ℕ) → k < maxItems → Item (ltb k (b .market .items)) (priceAt b k) (holderAt b k) (withdrawnAt b k)
+  item-at : (k : ℕ) → k < maxItems → Item (ltb k (b .market .items)) (priceAt b k) (holderAt b k) (getD (b .market .withdrawn) k 0)
   item-at k l =
       by-cases
       (decLt k (b .market .items))
       (λ a. record {
         unheld = λ z. h .unheld k a (λ i n e. omega (arith, held-names (b .state .holder) (b .market .items) i k e .1));
         unused = λ t. absurd (omega (arith, ltb-false k (b .market .items) t));
+        flagged = omega (arith, h .flags k a, flag-used (b .market .items) k a);
       })
       (λ a.
       let c : b .market .items ≤ k = omega arith in
-      record { unheld = λ z. h .unused .price k c l; unused = λ t. (h .unused .holder k c l, h .unused .withdrawn k c l) })
+      record {
+        unheld = λ z. h .unused .price k c l;
+        unused = λ t. h .unused .holder k c l;
+        flagged = omega (arith, h .unused .withdrawn k c l, flag-past (b .market .items) k c);
+      })
 
   from : Parts b
   from =

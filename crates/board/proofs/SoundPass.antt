@@ -17,7 +17,7 @@ use Rattle.board.specs.declared.record.Auction.{Auction}
 use Rattle.board.specs.declared.units.Scaled.{Scaled}
 use Rattle.board.specs.declared.sound.Placing.{Placing}
 use Rattle.board.specs.Limits.{maxItems, maxBidders, maxWeight, maxQ}
-use Rattle.board.specs.Cells.{scaledAt, priceAt, gainAt, withdrawnAt, weightAt}
+use Rattle.board.specs.Cells.{scaledAt, flagAt, priceAt, gainAt, withdrawnAt, weightAt}
 use Rattle.board.specs.Live.{matchingOf}
 use Rattle.board.specs.SoundTest.{formedTest, limitsTest, holdersTest, itemsTest, limitAt, usedBy, rowTest, pairTest, placeTest}
 use Rattle.board.specs.SoundPass.{maxNeed, lackOf, roomOf, LimitsOf, LacksOf, Bounded, needTest, needsTest, emptyTest, rowsTest}
@@ -79,12 +79,12 @@ module _ (c limit y g w : ℕ) (factor : c ≤ maxQ) (low : limit ≤ maxWeight)
   edge-cell true h = record { light = h .light; covered = omega (arith, need-within c w factor (omega (arith, h .light))) }
   edge-cell false h = record { light = h .light; covered = omega (arith, need-within c w factor (omega (arith, h .light)), h .covered refl) }
 
-pub bounded : (price : List Scaled) (withdrawn : List Bool) (items : ℕ) (limit lack : List ℕ) → LimitsOf items limit → LacksOf price withdrawn lack →
+pub bounded : (price : List Scaled) (withdrawn : List ℕ) (items : ℕ) (limit lack : List ℕ) → LimitsOf items limit → LacksOf price withdrawn lack →
     Bounded limit lack
 bounded price withdrawn items limit lack most lacks =
     record {
       limits = λ k l. rw (most k l) (limit-within items k);
-      lacks = λ k l. rw (lacks k l) (lack-within (scaledAt price k) (getD withdrawn k false));
+      lacks = λ k l. rw (lacks k l) (lack-within (scaledAt price k) (flagAt withdrawn k));
     }
 
 -- A board's rows, read with the limits and the lacks of its items

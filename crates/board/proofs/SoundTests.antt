@@ -18,7 +18,7 @@ use Rattle.board.specs.Live.{matchingOf}
 use Rattle.board.specs.Sound.{Formed}
 use Rattle.board.specs.Ranges.{Within, SlackIn}
 use Rattle.board.proofs.Tests.{within-decides, slack-decides}
-use Rattle.board.specs.SoundTest.{formedTest, limitsTest, holdersTest, itemTest, itemsTest, usedBy, limitAt, edgeTest, rowTest, pairTest, placeTest, bidderTest, soundTest}
+use Rattle.board.specs.SoundTest.{formedTest, limitsTest, holdersTest, flagLimit, itemTest, itemsTest, usedBy, limitAt, edgeTest, rowTest, pairTest, placeTest, bidderTest, soundTest}
 
 pub formed-decides : (b : Auction) → Decides (formedTest b) (Formed b)
 unfolding formedTest
@@ -47,29 +47,37 @@ limits-decide m n p q =
     (λ h. record { items = h .0; arrived = h .1 .0; slack = h .1 .1 })
     (λ h. (h .items, (h .arrived, h .slack)))
 
--- An item's cells: price 0 where nobody holds it, and nothing at all past the count
-pub record Item (used : Bool) (price holder : ℕ) (withdrawn : Bool) : Type 0 where
+-- An item's cells: price 0 where nobody holds it, a flag of 0 or 1, and nothing at all past the count
+pub record Item (used : Bool) (price holder flag : ℕ) : Type 0 where
   pub unheld : holder ≡ 0 → price ≡ 0
-  pub unused : used ≡ false → (holder ≡ 0) × (withdrawn ≡ false)
+  pub unused : used ≡ false → holder ≡ 0
+  pub flagged : flag ≤ flagLimit used
 
-pub item-decides : (used : Bool) (price holder : ℕ) (withdrawn : Bool) → Decides (itemTest used price holder withdrawn) (Item used price holder withdrawn)
+pub item-decides : (used : Bool) (price holder flag : ℕ) → Decides (itemTest used price holder flag) (Item used price holder flag)
 unfolding itemTest
-item-decides used price holder withdrawn =
+item-decides used price holder flag =
     reword
-    (and-decides (or-decides (eq-decides price 0)) (or-decides (and-decides (eq-decides holder 0) (not-decides withdrawn))))
-    (λ h. record { unheld = λ e. h .0 (rw (eq-eqb holder 0 e)); unused = h .1 })
-    (λ h. (λ t. h .unheld (eqb-true holder 0 (not-false _ t)), h .unused))
+    (and-decides (or-decides (eq-decides price 0)) (and-decides (or-decides (eq-decides holder 0)) (le-decides flag (flagLimit used))))
+    (λ h. record { unheld = λ e. h .0 (rw (eq-eqb holder 0 e)); unused = h .1 .0; flagged = h .1 .1 })
+    (λ h. (λ t. h .unheld (eqb-true holder 0 (not-false _ t)), (h .unused, h .flagged)))
 
 -- A held item is one of the board's
-pub held-used : (used : Bool) (price holder : ℕ) (withdrawn : Bool) → Item used price holder withdrawn → (holder ≡ 0 → ⊥) → used ≡ true
-held-used true price holder withdrawn h held = refl
-held-used false price holder withdrawn h held = absurd (held (h .unused refl .0))
+pub held-used : (used : Bool) (price holder flag : ℕ) → Item used price holder flag → (holder ≡ 0 → ⊥) → used ≡ true
+held-used true price holder flag h held = refl
+held-used false price holder flag h held = absurd (held (h .unused refl))
 
-pub items-decide : (price : List Scaled) (holder : List ℕ) (withdrawn : List Bool) (items : ℕ) → Decides (itemsTest price holder withdrawn items)
-    ((k : ℕ) → k < maxItems → Item (ltb k items) (scaledAt price k) (getD holder k 0) (getD withdrawn k false))
+pub items-decide : (price : List Scaled) (holder withdrawn : List ℕ) (items : ℕ) → Decides (itemsTest price holder withdrawn items)
+    ((k : ℕ) → k < maxItems → Item (ltb k items) (scaledAt price k) (getD holder k 0) (getD withdrawn k 0))
 unfolding itemsTest
 items-decide price holder withdrawn items =
-    all-decides maxItems _ _ (λ k. item-decides (ltb k items) (scaledAt price k) (getD holder k 0) (getD withdrawn k false))
+    all-decides maxItems _ _ (λ k. item-decides (ltb k items) (scaledAt price k) (getD holder k 0) (getD withdrawn k 0))
+
+-- The limit of a flag, at an item that is used and past these
+pub flag-used : (items k : ℕ) → k < items → flagLimit (ltb k items) ≡ 1
+flag-used items k l = rw (lt-ltb k items l)
+
+pub flag-past : (items k : ℕ) → items ≤ k → flagLimit (ltb k items) ≡ 0
+flag-past items k l = rw (le-ltb k items l)
 
 -- The limit of a weight, at an item that is used and past these
 pub limit-used : (used k : ℕ) → k < used → limitAt used k ≡ maxWeight

@@ -1,7 +1,9 @@
 -- What the tests of the calls decide.
-use mathlib.Core.Path.{refl}
+use mathlib.Core.Path.{_≡_, refl, ap}
 use mathlib.Core.Bool.{Bool, true, false, not}
 use Prim.Native.Nat.{ℕ, _-_, _≤_}
+use lib.Dec.{eqb}
+use borrow.Author.Tests.{eq-eqb, ne-eqb}
 use Rattle.duality.specs.Decide.{Decides}
 use Rattle.duality.proofs.Decide.{clash, reword, le-decides, lt-decides, and-decides}
 use Rattle.board.specs.Limits.{maxQ}
@@ -27,6 +29,13 @@ slack-decides least p q =
     reword (and-decides (le-decides least p) (and-decides (lt-decides p q) (le-decides q maxQ)))
     (λ h. record { low = h .0; below = h .1 .0; high = h .1 .1 })
     (λ h. (h .low, (h .below, h .high)))
+
+-- A flag that is not 0, and one that is
+pub flag-on : (flag : ℕ) → (flag ≡ 0 → ⊥) → not (eqb flag 0) ≡ true
+flag-on flag ne = ap not (ne-eqb flag 0 ne)
+
+pub flag-off : (flag : ℕ) → flag ≡ 0 → not (eqb flag 0) ≡ false
+flag-off flag e = ap not (eq-eqb flag 0 e)
 
 -- A cell per bidder, per item, per bidder
 pub room-decides : (bidders items plan prices gains : ℕ) →

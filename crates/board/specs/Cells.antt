@@ -1,8 +1,9 @@
 -- The cells of a board, from 0: item k + 1 is cell k, bidder i + 1 is cell i. A cell past the end of a list reads as 0.
-use mathlib.Core.Bool.{Bool, false}
+use mathlib.Core.Bool.{Bool, not}
 use mathlib.Core.List.{List}
 use Prim.Native.Nat.{ℕ, zero, suc, _*_}
 use lib.ListN.{getD, take, drop}
+use lib.Dec.{eqb}
 use Rattle.board.specs.declared.record.Auction.{Auction}
 use Rattle.board.specs.declared.record.Market.{Market}
 use Rattle.board.specs.declared.record.State.{State}
@@ -50,9 +51,9 @@ abbrev pub holderOf : ℕ → Holder
 holderOf zero = Free
 holderOf (suc i) = Held i
 
--- Whether an item is withdrawn, by cell. A cell past the end reads as false
-abbrev pub flagAt : List Bool → ℕ → Bool
-flagAt withdrawn k = getD withdrawn k false
+-- Whether an item is withdrawn: its cell is a byte, 0 where the item is not withdrawn
+abbrev pub flagAt : List ℕ → ℕ → Bool
+flagAt withdrawn k = not (eqb (getD withdrawn k 0) 0)
 
 abbrev pub withdrawnAt : Auction → ℕ → Bool
 withdrawnAt b k = flagAt (b .market .withdrawn) k

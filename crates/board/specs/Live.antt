@@ -1,5 +1,5 @@
 -- The live edges, the matching and the edges of a board.
-use mathlib.Core.Bool.{Bool, cond}
+use mathlib.Core.Bool.{cond}
 use mathlib.Core.List.{List, [], _∷_, _++_}
 use Prim.Native.Nat.{ℕ, zero, suc}
 use lib.ListN.{getD}
@@ -11,11 +11,11 @@ use Rattle.board.specs.Cells.{edge, flagAt, rowIn, rowAt}
 
 -- "The live sheet is all entries whose kettle is not withdrawn": the weight of the edge at an item of a row, and 0 where there is none or
 -- the item is withdrawn
-abbrev pub liveIn : List ℕ → List Bool → ℕ → ℕ
+abbrev pub liveIn : List ℕ → List ℕ → ℕ → ℕ
 liveIn ws withdrawn k = cond (flagAt withdrawn k) 0 (getD ws k 0)
 
 -- The weight of the live edge between bidder i + 1 and item k + 1, of the withdrawn items and the weights of all rows
-abbrev pub liveOf : List Bool → List ℕ → ℕ → ℕ → ℕ
+abbrev pub liveOf : List ℕ → List ℕ → ℕ → ℕ → ℕ
 liveOf withdrawn weights i k = liveIn (rowIn weights i) withdrawn k
 
 -- The same of a board, for its arrived bidders and its items

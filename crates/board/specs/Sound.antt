@@ -1,9 +1,9 @@
 -- When a board is sound: document 01's sentence, clause by clause in its order.
 use mathlib.Core.Path.{_≡_}
-use mathlib.Core.Bool.{true, false}
+use mathlib.Core.Bool.{true}
 use mathlib.Core.List.{List, [], _∷_}
 use Prim.Native.Nat.{ℕ, suc, _+_, _-_, _*_, _≤_, _<_}
-use lib.ListN.{length}
+use lib.ListN.{length, getD}
 use Rattle.duality.specs.Matching.{IsMatching}
 use Rattle.duality.specs.Cover.{Covers}
 use Rattle.board.specs.declared.record.Auction.{Auction}
@@ -35,7 +35,7 @@ pub data Weighed : List Edge → Type 0 where
 pub record Unused (b : Auction) : Type 0 where
   pub price : (k : ℕ) → b .market .items ≤ k → k < maxItems → priceAt b k ≡ 0
   pub holder : (k : ℕ) → b .market .items ≤ k → k < maxItems → holderAt b k ≡ 0
-  pub withdrawn : (k : ℕ) → b .market .items ≤ k → k < maxItems → withdrawnAt b k ≡ false
+  pub withdrawn : (k : ℕ) → b .market .items ≤ k → k < maxItems → getD (b .market .withdrawn) k 0 ≡ 0
   pub weight : (i k : ℕ) → i < b .market .arrived → b .market .items ≤ k → k < maxItems → weightAt b i k ≡ 0
   pub gain : (i : ℕ) → b .market .arrived ≤ i → i < maxBidders → gainAt b i ≡ 0
   pub row : (i k : ℕ) → b .market .arrived ≤ i → i < maxBidders → k < maxItems → weightAt b i k ≡ 0
@@ -48,6 +48,8 @@ pub record Sound (b : Auction) : Type 0 where
   pub arrived : b .market .arrived ≤ maxBidders
   pub slack : SlackIn 1 (b .market .slack .p) (b .market .slack .q)
   pub weights : (i : ℕ) → i < b .market .arrived → Weighed (edgesOf b i)
+  -- whether an item is withdrawn is told by a byte: 1 where it is, 0 where it is not
+  pub flags : (k : ℕ) → k < b .market .items → getD (b .market .withdrawn) k 0 ≤ 1
   -- "prices and gains are whole and not negative": they are numbers of ℕ
   -- "unused cells are 0"
   pub unused : Unused b

@@ -35,7 +35,7 @@ roomOf gain = min gain maxNeed + maxNeed
 abbrev pub LimitsOf : ℕ → List ℕ → Type 0
 LimitsOf items limit = (k : ℕ) → k < maxItems → getD limit k 0 ≡ limitAt items k
 
-abbrev pub LacksOf : List Scaled → List Bool → List ℕ → Type 0
+abbrev pub LacksOf : List Scaled → List ℕ → List ℕ → Type 0
 LacksOf price withdrawn lack = (k : ℕ) → k < maxItems → getD lack k 0 ≡ lackOf (scaledAt price k) (flagAt withdrawn k)
 
 -- Both are bounded, so that need and lack can be added

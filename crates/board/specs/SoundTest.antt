@@ -8,7 +8,7 @@ use Rattle.duality.specs.Decide.{Decides, allBelow}
 use Rattle.board.specs.declared.record.Auction.{Auction}
 use Rattle.board.specs.declared.units.Scaled.{Scaled}
 use Rattle.board.specs.Limits.{maxItems, maxBidders, maxWeight}
-use Rattle.board.specs.Cells.{scaledAt, flagAt, priceAt, gainAt, withdrawnAt, weightAt}
+use Rattle.board.specs.Cells.{scaledAt, priceAt, gainAt, withdrawnAt, weightAt}
 use Rattle.board.specs.Live.{heldBy, matchingOf}
 use Rattle.board.specs.Ranges.{withinTest, slackTest}
 use Rattle.board.specs.Sound.{Sound}
@@ -32,13 +32,17 @@ holderTest holder items arrived k (suc i) = ltb i arrived && eqb (heldBy holder 
 unfoldable pub holdersTest : List ℕ → ℕ → ℕ → Bool
 holdersTest holder items arrived = allBelow items (λ k. holderTest holder items arrived k (getD holder k 0))
 
--- "unheld .. kettles have price 0", and an item past the count is unheld and not withdrawn ("unused cells are 0")
-unfoldable pub itemTest : Bool → ℕ → ℕ → Bool → Bool
-itemTest used price holder withdrawn = (not (eqb holder 0) || eqb price 0) && (used || (eqb holder 0 && not withdrawn))
+-- How high the byte may be that tells whether an item is withdrawn: past the count "unused cells are 0"
+abbrev pub flagLimit : Bool → ℕ
+flagLimit used = cond used 1 0
 
-unfoldable pub itemsTest : List Scaled → List ℕ → List Bool → ℕ → Bool
+-- "unheld .. kettles have price 0", and an item past the count is unheld and not withdrawn ("unused cells are 0")
+unfoldable pub itemTest : Bool → ℕ → ℕ → ℕ → Bool
+itemTest used price holder flag = (not (eqb holder 0) || eqb price 0) && ((used || eqb holder 0) && leb flag (flagLimit used))
+
+unfoldable pub itemsTest : List Scaled → List ℕ → List ℕ → ℕ → Bool
 itemsTest price holder withdrawn items =
-    allBelow maxItems (λ k. itemTest (ltb k items) (scaledAt price k) (getD holder k 0) (flagAt withdrawn k))
+    allBelow maxItems (λ k. itemTest (ltb k items) (scaledAt price k) (getD holder k 0) (getD withdrawn k 0))
 
 -- The items at which a bidder may have edges: all of the board's, and none before it has arrived
 abbrev pub usedBy : Auction → ℕ → ℕ

@@ -29,7 +29,7 @@ pub fn empty(items: u64, p: u64, q: u64) -> Auction
         items,
         slack: Slack { p, q },
         arrived: 0,
-        withdrawn: [false; Auction::MAX_ITEMS],
+        withdrawn: [0; Auction::MAX_ITEMS],
     };
     let state = State {
         price: [Scaled(0); Auction::MAX_ITEMS],

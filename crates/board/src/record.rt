@@ -19,7 +19,8 @@ pub struct Market {
     pub items: u64,
     pub slack: Slack,
     pub arrived: u64,
-    pub withdrawn: [bool; Auction::MAX_ITEMS],
+    // 1 for an item that is withdrawn, 0 for one that is not.
+    pub withdrawn: [u8; Auction::MAX_ITEMS],
 }
 
 // What bids change: prices, holders and gains.

@@ -7,7 +7,7 @@ ghost use lib.Dec.{eqb};
 ghost use Rattle.duality.specs.Decide.{Decides};
 ghost use Rattle.board.specs.Limits.{maxItems, maxBidders, maxWeight, maxQ, wordLimit};
 ghost use Rattle.board.specs.Cells.{auction};
-ghost use Rattle.board.specs.SoundTest.{limitsTest, itemTest, itemsTest, limitAt, pairTest, soundTest};
+ghost use Rattle.board.specs.SoundTest.{limitsTest, flagLimit, itemTest, itemsTest, limitAt, pairTest, soundTest};
 ghost use Rattle.board.specs.SoundPass.{PlacingOf, maxNeed, lackOf, roomOf, LimitsOf, LacksOf, Bounded, needTest, needsTest, emptyTest, rowsTest, RowsHold, Placed, PlacesHold};
 use crate::ranges::is_slack;
 use crate::ranges::is_within;
@@ -80,26 +80,33 @@ fn placing_of(holder: &[u8; Auction::MAX_ITEMS], items: usize, arrived: usize) -
     Placing { apart: true, item }
 }
 
-// An item that nobody holds has price 0; one past the count is also not held and not withdrawn.
-fn item_holds(used: bool, price: Scaled, holder: u8, withdrawn: bool) -> bool
-    ensures { λ r. ⌜ r ≡ itemTest used (price .0) holder withdrawn ⌝ }
+// How high the byte may be that tells whether an item is withdrawn: 0 past the count.
+fn flag_limit(used: bool) -> u8
+    ensures { λ r. ⌜ r ≡ flagLimit used ⌝ }
 {
+    if used {
+        return 1;
+    }
+    0
+}
+
+// An item that nobody holds has price 0; one past the count is also not held and not withdrawn.
+fn item_holds(used: bool, price: Scaled, holder: u8, flag: u8) -> bool
+    ensures { λ r. ⌜ r ≡ itemTest used (price .0) holder flag ⌝ }
+{
+    if flag > flag_limit(used) {
+        return false;
+    }
     if holder != 0 {
         return used;
     }
-    if price.0 != 0 {
-        return false;
-    }
-    if used {
-        return true;
-    }
-    !withdrawn
+    price.0 == 0
 }
 
 fn items_hold<'a>(
     price: [Scaled; Auction::MAX_ITEMS],
     holder: &'a [u8; Auction::MAX_ITEMS],
-    withdrawn: &'a [bool; Auction::MAX_ITEMS],
+    withdrawn: &'a [u8; Auction::MAX_ITEMS],
     items: usize,
 ) -> bool
     ensures { λ r. ⌜ r ≡ itemsTest price (now (holder .entry)) (now (withdrawn .entry)) items ⌝ }
@@ -153,14 +160,14 @@ fn limits_of(items: usize) -> [u64; Auction::MAX_ITEMS]
 // What each price lacks.
 fn lacks_of(
     price: [Scaled; Auction::MAX_ITEMS],
-    withdrawn: &[bool; Auction::MAX_ITEMS],
+    withdrawn: &[u8; Auction::MAX_ITEMS],
 ) -> [u64; Auction::MAX_ITEMS]
     ensures { λ r. ⌜ LacksOf price (now (withdrawn .entry)) r ⌝ }
 {
     let mut lack = [0; Auction::MAX_ITEMS];
     let mut k: usize = 0;
     while k < Auction::MAX_ITEMS {
-        lack[k] = lack_of(price[k], withdrawn[k]);
+        lack[k] = lack_of(price[k], withdrawn[k] != 0);
         k += 1;
     }
     lack
@@ -326,7 +333,7 @@ fn places_hold(
             cell,
             weight,
             state.price[k],
-            market.withdrawn[k],
+            market.withdrawn[k] != 0,
             state.gain[i],
             slack,
         ) {

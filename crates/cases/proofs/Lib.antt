@@ -2,3 +2,4 @@ pub mod Skips
 pub mod Table
 pub mod Text
 pub mod FullBoard
+pub mod Refused

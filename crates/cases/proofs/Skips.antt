@@ -1,6 +1,8 @@
 -- A case is played on sound boards, so the test of soundness need not be computed again at each call.
 use mathlib.Core.Path.{_≡_, refl, ap, _∙_}
+use mathlib.Core.Bool.{not}
 use mathlib.Core.List.{List, [], _∷_}
+use lib.ListN.{length}
 use Prim.Native.Nat.{ℕ}
 use native.Mathlib.Omega.{arith}
 use Rattle.refusals.specs.declared.Verdict.{Verdict}
@@ -14,16 +16,22 @@ use Rattle.board.specs.declared.opening.Opened.{Opened}
 use Rattle.board.specs.Sound.{Sound}
 use Rattle.bidding.specs.Rule.{Outcome, done, spent}
 use Rattle.refusals.specs.Codes.{codeOf}
-use Rattle.refusals.specs.Demand1.{firstOf}
-use Rattle.board.specs.Lent.{Lists}
+use Rattle.refusals.specs.declared.Refusal.{Refusal}
+use Rattle.refusals.specs.Demand1.{Check, checkFor, firstOf}
+use Rattle.board.specs.Lent.{Lists, roomTest}
 use Rattle.board.specs.Opening.{openOf, openChecks, openBy}
 use Rattle.auction.specs.Arrive.{arriveRest, arriveBy, arriveOf}
 use Rattle.auction.specs.Withdraw.{withdrawRest, withdrawBy, withdrawOf}
+use Rattle.auction.specs.ReadOut.{ReadOutcome, readOutBy, readOutOf}
 use Rattle.certificate.specs.Check.{checkBy, checkOf, checkRest}
 use Rattle.board.proofs.SoundLaw.{sound-decides}
 use Rattle.auction.proofs.Demand2.{arrive-demand-2, withdraw-demand-2}
 use Rattle.auction.proofs.Opening.{opening-sound}
-use Rattle.cases.specs.Play.{Call, arrive, withdraw, check, afterCheck, Case, Seen, refusal, seen, played, withdrew, afterArrive, afterWithdraw, playAll, opening, play}
+use Rattle.cases.specs.Play.{Call, arrive, withdraw, check, readOut, afterCheck, afterReadOut, Case, Seen, refusal, seen, played, withdrew, afterArrive, afterWithdraw, playAll, opening, play}
+
+-- Of a read-out's checks the one after the test
+abbrev roomCheck : Auction → Lists → List Check
+roomCheck b l = checkFor Refusal.Short (not (roomTest (b .market .arrived) (b .market .items) (length (l .plan)) (length (l .prices)) (length (l .gains)))) ∷ []
 
 -- The calls without the test
 unfoldable pub skipAll : List Call → Auction → List ℕ → Seen
@@ -31,6 +39,7 @@ skipAll [] b bids = seen b bids
 skipAll (arrive edges ∷ rest) b bids = afterArrive (skipAll rest) bids (arriveBy b edges (firstOf (arriveRest b edges)))
 skipAll (withdraw item ∷ rest) b bids = afterWithdraw (skipAll rest) bids (withdrawBy b item (firstOf (withdrawRest b item)))
 skipAll (check l p q ∷ rest) b bids = afterCheck (checkBy b l (firstOf (checkRest b l p q)))
+skipAll (readOut l ∷ rest) b bids = afterReadOut (readOutBy b l (firstOf (roomCheck b l)) .lists) (readOutBy b l (firstOf (roomCheck b l)) .answer)
 
 pub arrive-skips : (b : Auction) (edges : List Edge) → Sound b → arriveOf b edges ≡ arriveBy b edges (firstOf (arriveRest b edges))
 unfolding arriveOf firstOf
@@ -44,6 +53,10 @@ check-skips : (b : Auction) (l : Lists) (p q : ℕ) → Sound b → checkOf b l 
 unfolding checkOf firstOf
 check-skips b l p q s = let e = sound-decides b .complete s in rw e
 
+read-out-skips : (b : Auction) (l : Lists) → Sound b → readOutOf b l ≡ readOutBy b l (firstOf (roomCheck b l))
+unfolding readOutOf firstOf
+read-out-skips b l s = let e = sound-decides b .complete s in rw e
+
 module _ (rest : List Call) (ih : (b : Auction) (bids : List ℕ) → Sound b → playAll rest b bids ≡ skipAll rest b bids) where
   after-arrive : (b : Auction) (edges : List Edge) (bids : List ℕ) (o : Outcome Arrival) → arriveOf b edges ≡ o →
       afterArrive (playAll rest) bids o ≡ afterArrive (skipAll rest) bids o
@@ -54,7 +67,7 @@ module _ (rest : List Call) (ih : (b : Auction) (bids : List ℕ) → Sound b �
       go : (x : Arrived) → a .answer ≡ x → played (playAll rest) bids (a .auction) x ≡ played (skipAll rest) bids (a .auction) x
       go (Arrived.Bids n) h =
           let f : arriveOf b edges ≡ done (record { auction = a .auction; answer = Arrived.Bids n }) = rw (← h) e in
-          ih (a .auction) (n ∷ bids) (arrive-demand-2 b (a .auction) edges n f .after)
+          ih (a .auction) (n ∷ bids) (arrive-demand-2 b (a .auction) edges n (record { answer = Arrived.Bids n; outcome = f; tells = refl }) .after)
       go (Arrived.Refused r) h = refl
 
   after-withdraw : (b : Auction) (item : ℕ) (bids : List ℕ) (o : Outcome Withdrawal) → withdrawOf b item ≡ o →
@@ -66,7 +79,7 @@ module _ (rest : List Call) (ih : (b : Auction) (bids : List ℕ) → Sound b �
       go : (x : Withdrawn) → a .answer ≡ x → withdrew (playAll rest) bids (a .auction) x ≡ withdrew (skipAll rest) bids (a .auction) x
       go (Withdrawn.Bids n) h =
           let f : withdrawOf b item ≡ done (record { auction = a .auction; answer = Withdrawn.Bids n }) = rw (← h) e in
-          ih (a .auction) (n ∷ bids) (withdraw-demand-2 b (a .auction) item n f .after)
+          ih (a .auction) (n ∷ bids) (withdraw-demand-2 b (a .auction) item n (record { answer = Withdrawn.Bids n; outcome = f; tells = refl }) .after)
       go (Withdrawn.Refused r) h = refl
 
 all-skip : (calls : List Call) (b : Auction) (bids : List ℕ) → Sound b → playAll calls b bids ≡ skipAll calls b bids
@@ -77,6 +90,7 @@ all-skip (arrive edges ∷ rest) b bids s =
 all-skip (withdraw item ∷ rest) b bids s =
     after-withdraw rest (all-skip rest) b item bids _ refl ∙ ap (afterWithdraw (skipAll rest) bids) (withdraw-skips b item s)
 all-skip (check l p q ∷ rest) b bids s = ap afterCheck (check-skips b l p q s)
+all-skip (readOut l ∷ rest) b bids s = ap (λ (o : ReadOutcome). afterReadOut (o .lists) (o .answer)) (read-out-skips b l s)
 
 unfoldable pub skipOpening : List Call → Auction → Opened → Seen
 skipOpening calls b Opened.Ready = skipAll calls b []

@@ -14,11 +14,14 @@ use Rattle.auction.specs.Withdraw.{withdrawRest, withdrawalOf, withdrawBy}
 use Rattle.duality.specs.Decide.{allBelow}
 use Rattle.duality.specs.Tests.{freshTest, cellTest}
 use Rattle.certificate.specs.Check.{evenTest, clashChecks, priceTest, priceChecks, gainChecks, coveredTest, bareChecks, checkBy, listChecks, checkRest}
-use Rattle.cases.specs.Play.{afterCheck, afterArrive, afterWithdraw, played, withdrew, play}
+use Rattle.cases.specs.Play.{afterCheck, afterReadOut, afterArrive, afterWithdraw, played, withdrew, play}
+use Rattle.board.specs.Lent.{roomTest}
+use Rattle.auction.specs.ReadOut.{readOutBy}
 use Rattle.cases.specs.Table.{Row, table, Cases}
+use Rattle.cases.specs.Refused.{refusals}
 use Rattle.cases.proofs.Skips.{skipAll, skipOpening, skip, play-skips}
 
-all-played : (rows : List Row) → map (λ r. play (r .case)) rows ≡ map (λ r. skip (r .case)) rows
+pub all-played : (rows : List Row) → map (λ r. play (r .case)) rows ≡ map (λ r. skip (r .case)) rows
 all-played [] = refl
 all-played (r ∷ rows) = rw (play-skips (r .case), all-played rows)
 
@@ -29,6 +32,14 @@ unfolding
     offerOf bestOf placedAt displaced handOver bidOf settleOf firstOf withinTest orderTest edgeChecks edgesChecks rowTo
     opened slackTest openBy openOf arriveRest entered arrivalOf arrivedOf arriveBy withdrawRest released withdrawalOf withdrawnOf withdrawBy
 computed = refl
+
+pub computed-refusals : map (λ r. skip (r .case)) refusals ≡ map (λ r. r .seen) refusals
+unfolding
+    refusals skip checkRest afterCheck listChecks clashChecks priceTest priceChecks gainChecks coveredTest bareChecks evenTest checkBy freshTest cellTest allBelow
+    skipOpening skipAll afterArrive afterWithdraw afterReadOut played withdrew heldBy edgeCount roomTest readOutBy
+    offerOf bestOf placedAt displaced handOver bidOf settleOf firstOf withinTest orderTest edgeChecks edgesChecks rowTo
+    opened slackTest openBy openOf arriveRest entered arrivalOf arrivedOf arriveBy withdrawRest released withdrawalOf withdrawnOf withdrawBy
+computed-refusals = refl
 
 pub cases : Cases
 cases = all-played table ∙ computed

@@ -1,7 +1,7 @@
--- Case 1 as a text, by computation. The boards on the way are sound, so the test of soundness need not be computed.
-use mathlib.Core.Path.{_≡_, refl, ap, _∙_}
+-- The texts, by computation. The boards on the way are sound, so the test of soundness need not be computed.
+use mathlib.Core.Path.{_≡_, refl, ap, ap₂, _∙_}
 use mathlib.Core.Bool.{cond}
-use mathlib.Core.List.{List}
+use mathlib.Core.List.{List, [], _∷_, _++_}
 use Prim.Native.Nat.{ℕ, zero, suc, _+_}
 use lib.ListN.{length}
 use lib.Dec.{ltb}
@@ -23,15 +23,15 @@ use Rattle.board.specs.Ranges.{withinTest, slackTest}
 use Rattle.auction.specs.Edges.{orderTest, edgeChecks, edgesChecks, rowTo}
 use Rattle.refusals.specs.Demand1.{firstOf}
 use Rattle.board.specs.Opening.{opened, openBy, openOf}
-use Rattle.bidding.specs.Moves.{entered, arrivedOf}
+use Rattle.bidding.specs.Moves.{entered, arrivedOf, released, withdrawnOf}
 use Rattle.auction.specs.Arrive.{arrivalOf, arriveRest, arriveBy, arriveOf}
-use Rattle.auction.specs.Withdraw.{withdrawRest, withdrawBy, withdrawOf}
+use Rattle.auction.specs.Withdraw.{withdrawRest, withdrawalOf, withdrawBy, withdrawOf}
 use Rattle.replay.specs.Replay.{pairsOf, Command, opens, arrives, withdraws, malformed, commandOf, finished}
 use Rattle.replay.specs.Replay.{afterArrived, afterArrival, afterWithdrawn, afterWithdrawal, carryOut, linesFrom, afterOpened, firstLine, replayOf}
 use Rattle.auction.proofs.Demand2.{arrive-demand-2, withdraw-demand-2}
 use Rattle.history.specs.Output.{bidderLines, itemLines, outputOf}
 use Rattle.history.specs.Plan.{sheetOf, printedBy, printed}
-use Rattle.cases.specs.Text.{text1, printed1, Text1, Starred}
+use Rattle.cases.specs.Text.{text1, printed1, text2, printed2, firstLine1, texts, Texts, Starred}
 use Rattle.cases.proofs.Skips.{arrive-skips, withdraw-skips, ready-sound}
 use Rattle.cases.proofs.Table.{cases}
 
@@ -58,7 +58,7 @@ module _ (next skip : Auction → ℕ → Outcome Replayed) (ih : (b : Auction) 
       go : (x : Arrived) → a .answer ≡ x → afterArrived next n (a .auction) bids x ≡ afterArrived skip n (a .auction) bids x
       go (Arrived.Bids k) h =
           let f : arriveOf b edges ≡ done (record { auction = a .auction; answer = Arrived.Bids k }) = rw (← h) e in
-          ih (a .auction) (bids + k) (arrive-demand-2 b (a .auction) edges k f .after)
+          ih (a .auction) (bids + k) (arrive-demand-2 b (a .auction) edges k (record { answer = Arrived.Bids k; outcome = f; tells = refl }) .after)
       go (Arrived.Refused r) h = refl
 
   withdrawals : (n : ℕ) (b : Auction) (bids item : ℕ) (o : Outcome Withdrawal) → withdrawOf b item ≡ o → afterWithdrawal next n bids o ≡ afterWithdrawal skip n bids o
@@ -69,7 +69,7 @@ module _ (next skip : Auction → ℕ → Outcome Replayed) (ih : (b : Auction) 
       go : (x : Withdrawn) → a .answer ≡ x → afterWithdrawn next n (a .auction) bids x ≡ afterWithdrawn skip n (a .auction) bids x
       go (Withdrawn.Bids k) h =
           let f : withdrawOf b item ≡ done (record { auction = a .auction; answer = Withdrawn.Bids k }) = rw (← h) e in
-          ih (a .auction) (bids + k) (withdraw-demand-2 b (a .auction) item k f .after)
+          ih (a .auction) (bids + k) (withdraw-demand-2 b (a .auction) item k (record { answer = Withdrawn.Bids k; outcome = f; tells = refl }) .after)
       go (Withdrawn.Refused r) h = refl
 
   line-skips : (n : ℕ) (b : Auction) (bids : ℕ) → Sound b → (x : Command) → carryOut next n b bids x ≡ skipOut skip n b bids x
@@ -87,24 +87,111 @@ lines-skip (suc fuel) s at n b bids sound =
     (line-skips (λ c more. linesFrom fuel s (lineAt s at .next) (n + 1) c more) (λ c more. skipLines fuel s (lineAt s at .next) (n + 1) c more)
     (λ c more. lines-skip fuel s (lineAt s at .next) (n + 1) c more) n b bids sound (commandOf (lineAt s at)))
 
-opened-1 : replayOf text1 ≡ linesFrom (suc (length text1)) text1 9 2 (openOf 2 1 10 .auction) 0
-unfolding replayOf firstLine afterOpened commandOf lineAt fieldsAt fieldAt openOf openBy slackTest withinTest firstOf
-opened-1 = refl
-
 sound-1 : Sound (openOf 2 1 10 .auction)
 unfolding openOf openBy slackTest withinTest firstOf
 sound-1 = ready-sound 2 1 10 refl
 
-computed-1 : printed (skipLines (suc (length text1)) text1 9 2 (openOf 2 1 10 .auction) 0) ≡ printed1
-unfolding
-    skipLines skipOut lineAt fieldsAt fieldAt commandOf pairsOf afterArrival afterArrived printed printedBy outputOf bidderLines itemLines decimal
-    heldBy edgeCount offerOf bestOf placedAt displaced handOver bidOf settleOf firstOf withinTest orderTest edgeChecks edgesChecks rowTo
-    opened slackTest openBy openOf arriveRest entered arrivalOf arrivedOf arriveBy
-computed-1 = refl
+-- The first line is read, and opens the board
+abbrev Opens : List ℕ → Type 0
+Opens s = replayOf s ≡ linesFrom (suc (length s)) s 9 2 (openOf 2 1 10 .auction) 0
 
-pub text-1 : Text1
+-- What the further lines print
+abbrev Prints : List ℕ → List ℕ → Type 0
+Prints s out = printed (skipLines (suc (length s)) s 9 2 (openOf 2 1 10 .auction) 0) ≡ out
+
+-- A text that opens such a board prints what its further lines give, without the test
+opens-so : (s out : List ℕ) → Opens s → Prints s out → sheetOf s ≡ out
 unfolding sheetOf
-text-1 = ap printed (opened-1 ∙ lines-skip (suc (length text1)) text1 9 2 (openOf 2 1 10 .auction) 0 sound-1) ∙ computed-1
+opens-so s out e f = ap printed (e ∙ lines-skip (suc (length s)) s 9 2 (openOf 2 1 10 .auction) 0 sound-1) ∙ f
+
+text-1-opens : Opens text1
+unfolding replayOf firstLine afterOpened commandOf lineAt fieldsAt fieldAt openOf openBy slackTest withinTest firstOf
+text-1-opens = refl
+
+text-1-prints : Prints text1 printed1
+unfolding
+    skipLines skipOut lineAt fieldsAt fieldAt commandOf pairsOf afterArrival afterArrived afterWithdrawal afterWithdrawn printed printedBy outputOf bidderLines itemLines decimal
+    heldBy edgeCount offerOf bestOf placedAt displaced handOver bidOf settleOf firstOf withinTest orderTest edgeChecks edgesChecks rowTo carryOut
+    opened slackTest openBy openOf arriveRest entered arrivalOf arrivedOf arriveBy withdrawRest released withdrawalOf withdrawnOf withdrawBy
+text-1-prints = refl
+
+text-2-opens : Opens text2
+unfolding replayOf firstLine afterOpened commandOf lineAt fieldsAt fieldAt openOf openBy slackTest withinTest firstOf
+text-2-opens = refl
+
+text-2-prints : Prints text2 printed2
+unfolding
+    skipLines skipOut lineAt fieldsAt fieldAt commandOf pairsOf afterArrival afterArrived afterWithdrawal afterWithdrawn printed printedBy outputOf bidderLines itemLines decimal
+    heldBy edgeCount offerOf bestOf placedAt displaced handOver bidOf settleOf firstOf withinTest orderTest edgeChecks edgesChecks rowTo carryOut
+    opened slackTest openBy openOf arriveRest entered arrivalOf arrivedOf arriveBy withdrawRest released withdrawalOf withdrawnOf withdrawBy
+text-2-prints = refl
+
+unknown-item-opens : Opens (firstLine1 ++ (65 ∷ 9 ∷ 51 ∷ 9 ∷ 53 ∷ 10 ∷ []))
+unfolding replayOf firstLine afterOpened commandOf lineAt fieldsAt fieldAt openOf openBy slackTest withinTest firstOf
+unknown-item-opens = refl
+
+unknown-item-prints : Prints (firstLine1 ++ (65 ∷ 9 ∷ 51 ∷ 9 ∷ 53 ∷ 10 ∷ [])) (82 ∷ 9 ∷ 52 ∷ 9 ∷ 50 ∷ 10 ∷ [])
+unfolding
+    skipLines skipOut lineAt fieldsAt fieldAt commandOf pairsOf afterArrival afterArrived afterWithdrawal afterWithdrawn printed printedBy outputOf bidderLines itemLines decimal
+    heldBy edgeCount offerOf bestOf placedAt displaced handOver bidOf settleOf firstOf withinTest orderTest edgeChecks edgesChecks rowTo carryOut
+    opened slackTest openBy openOf arriveRest entered arrivalOf arrivedOf arriveBy withdrawRest released withdrawalOf withdrawnOf withdrawBy
+unknown-item-prints = refl
+
+gone-twice-opens : Opens (firstLine1 ++ ((87 ∷ 9 ∷ 49 ∷ 10 ∷ []) ++ (87 ∷ 9 ∷ 49 ∷ 10 ∷ [])))
+unfolding replayOf firstLine afterOpened commandOf lineAt fieldsAt fieldAt openOf openBy slackTest withinTest firstOf
+gone-twice-opens = refl
+
+gone-twice-prints : Prints (firstLine1 ++ ((87 ∷ 9 ∷ 49 ∷ 10 ∷ []) ++ (87 ∷ 9 ∷ 49 ∷ 10 ∷ []))) (82 ∷ 9 ∷ 53 ∷ 9 ∷ 51 ∷ 10 ∷ [])
+unfolding
+    skipLines skipOut lineAt fieldsAt fieldAt commandOf pairsOf afterArrival afterArrived afterWithdrawal afterWithdrawn printed printedBy outputOf bidderLines itemLines decimal
+    heldBy edgeCount offerOf bestOf placedAt displaced handOver bidOf settleOf firstOf withinTest orderTest edgeChecks edgesChecks rowTo carryOut
+    opened slackTest openBy openOf arriveRest entered arrivalOf arrivedOf arriveBy withdrawRest released withdrawalOf withdrawnOf withdrawBy
+gone-twice-prints = refl
+
+unclosed-opens : Opens (firstLine1 ++ (87 ∷ 9 ∷ 49 ∷ []))
+unfolding replayOf firstLine afterOpened commandOf lineAt fieldsAt fieldAt openOf openBy slackTest withinTest firstOf
+unclosed-opens = refl
+
+unclosed-prints : Prints (firstLine1 ++ (87 ∷ 9 ∷ 49 ∷ [])) (82 ∷ 9 ∷ 49 ∷ 52 ∷ 9 ∷ 50 ∷ 10 ∷ [])
+unfolding
+    skipLines skipOut lineAt fieldsAt fieldAt commandOf pairsOf afterArrival afterArrived afterWithdrawal afterWithdrawn printed printedBy outputOf bidderLines itemLines decimal
+    heldBy edgeCount offerOf bestOf placedAt displaced handOver bidOf settleOf firstOf withinTest orderTest edgeChecks edgesChecks rowTo carryOut
+    opened slackTest openBy openOf arriveRest entered arrivalOf arrivedOf arriveBy withdrawRest released withdrawalOf withdrawnOf withdrawBy
+unclosed-prints = refl
+
+form-first-opens : Opens (firstLine1 ++ (65 ∷ 9 ∷ 51 ∷ 10 ∷ []))
+unfolding replayOf firstLine afterOpened commandOf lineAt fieldsAt fieldAt openOf openBy slackTest withinTest firstOf
+form-first-opens = refl
+
+form-first-prints : Prints (firstLine1 ++ (65 ∷ 9 ∷ 51 ∷ 10 ∷ [])) (82 ∷ 9 ∷ 49 ∷ 52 ∷ 9 ∷ 50 ∷ 10 ∷ [])
+unfolding
+    skipLines skipOut lineAt fieldsAt fieldAt commandOf pairsOf afterArrival afterArrived afterWithdrawal afterWithdrawn printed printedBy outputOf bidderLines itemLines decimal
+    heldBy edgeCount offerOf bestOf placedAt displaced handOver bidOf settleOf firstOf withinTest orderTest edgeChecks edgesChecks rowTo carryOut
+    opened slackTest openBy openOf arriveRest entered arrivalOf arrivedOf arriveBy withdrawRest released withdrawalOf withdrawnOf withdrawBy
+form-first-prints = refl
+
+-- Refused at the first line, or without one
+slack-refused : sheetOf (75 ∷ 9 ∷ 50 ∷ 9 ∷ 53 ∷ 9 ∷ 53 ∷ 10 ∷ []) ≡ 82 ∷ 9 ∷ 50 ∷ 9 ∷ 49 ∷ 10 ∷ []
+unfolding sheetOf replayOf firstLine afterOpened commandOf lineAt fieldsAt fieldAt openOf openBy slackTest withinTest firstOf printed printedBy decimal
+slack-refused = refl
+
+empty-refused : sheetOf [] ≡ 82 ∷ 9 ∷ 49 ∷ 52 ∷ 9 ∷ 49 ∷ 10 ∷ []
+unfolding sheetOf replayOf firstLine commandOf lineAt printed printedBy decimal
+empty-refused = refl
+
+also : {x y : List ℕ} {xs ys : List (List ℕ)} → x ≡ y → xs ≡ ys → x ∷ xs ≡ y ∷ ys
+also e f = ap₂ (λ (x : List ℕ) (xs : List (List ℕ)). x ∷ xs) e f
+
+pub texts-print : Texts
+unfolding texts
+texts-print =
+    also (opens-so _ _ text-1-opens text-1-prints) (
+    also (opens-so _ _ text-2-opens text-2-prints) (
+    also (opens-so _ _ unknown-item-opens unknown-item-prints) (
+    also (opens-so _ _ gone-twice-opens gone-twice-prints) (
+    also (opens-so _ _ unclosed-opens unclosed-prints) (
+    also (opens-so _ _ form-first-opens form-first-prints) (
+    also slack-refused (also empty-refused refl)))))))
 
 pub starred : Starred
-starred = record { calls = cases; text = text-1 }
+starred = record { calls = cases; texts = texts-print }

@@ -18,7 +18,7 @@ count i (suc n) = i ∷ count (i + 1) n
 unfoldable pub full : ℕ → Auction
 full w =
     record {
-      market = record { items = maxItems; slack = record { p = 1; q = 2 }; arrived = maxBidders; withdrawn = replicate maxItems false };
+      market = record { items = maxItems; slack = record { p = 1; q = 2 }; arrived = maxBidders; withdrawn = replicate maxItems 0 };
       state = record { price = replicate maxItems (scaled 3); holder = count 1 maxItems; gain = replicate maxBidders (scaled 0) };
       weights = set (replicate (maxBidders * maxItems) 1) 8191 w;
     }

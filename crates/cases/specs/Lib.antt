@@ -1,5 +1,6 @@
--- The starred cases of document 01.
+-- The starred cases of document 01, and further ones worked out.
 pub mod Play
 pub mod Table
 pub mod Text
 pub mod FullBoard
+pub mod Refused

@@ -10,6 +10,7 @@ use Rattle.auction.specs.declared.arrive.Arrived.{Arrived}
 use Rattle.auction.specs.declared.arrive.Arrival.{Arrival}
 use Rattle.auction.specs.declared.withdraw.Withdrawn.{Withdrawn}
 use Rattle.auction.specs.declared.withdraw.Withdrawal.{Withdrawal}
+use Rattle.auction.specs.declared.read_out.ReadOut.{ReadOut}
 use Rattle.board.specs.Cells.{priceAt, gainAt}
 use Rattle.board.specs.Live.{live, matchingOf, matchingWeight}
 use Rattle.bidding.specs.Rule.{Outcome, done, spent}
@@ -18,6 +19,7 @@ use Rattle.board.specs.Lent.{Lists}
 use Rattle.board.specs.Opening.{openOf}
 use Rattle.auction.specs.Arrive.{arriveOf}
 use Rattle.auction.specs.Withdraw.{withdrawOf}
+use Rattle.auction.specs.ReadOut.{readOutOf}
 use Rattle.certificate.specs.declared.Checked.{Checked}
 use Rattle.certificate.specs.Check.{checkOf}
 
@@ -26,6 +28,7 @@ pub data Call : Type 0 where
   arrive : List Edge → Call
   withdraw : ℕ → Call
   check : Lists → ℕ → ℕ → Call
+  readOut : Lists → Call
 
 -- A case: a board to open, and the calls on it
 pub record Case : Type 0 where
@@ -38,10 +41,11 @@ abbrev pub on : ℕ → ℕ → ℕ → List Call → Case
 on items p q calls = record { items = items; p = p; q = q; calls = calls }
 
 -- What is seen at the end: the matching, gains and prices, the matching's weight, the sum of prices and gains, the greatest weight, the bids of each
--- call; or a check's two totals; or the refusal that stopped the case, by number and place
+-- call; or a check's two totals; or the lists that were read out; or the refusal that stopped the case, by number and place
 pub data Seen : Type 0 where
   board : List ℕ → List ℕ → List ℕ → ℕ → ℕ → ℕ → List ℕ → Seen
   totals : ℕ → ℕ → Seen
+  wrote : Lists → Seen
   refused : ℕ → ℕ → Seen
   unended : Seen
 
@@ -75,10 +79,14 @@ unfoldable pub afterWithdraw : (Auction → List ℕ → Seen) → List ℕ → 
 afterWithdraw next bids spent = unended
 afterWithdraw next bids (done a) = withdrew next bids (a .auction) (a .answer)
 
--- A check is the last call
+-- A check is the last call, and so is a read-out
 unfoldable pub afterCheck : Checked → Seen
 afterCheck (Checked.Totals weight sum) = totals (weight .0) (sum .0)
 afterCheck (Checked.Refused r) = refusal (codeOf r)
+
+unfoldable pub afterReadOut : Lists → ReadOut → Seen
+afterReadOut l ReadOut.Written = wrote l
+afterReadOut l (ReadOut.Refused r) = refusal (codeOf r)
 
 -- The calls in turn; the bids of the last call first
 unfoldable pub playAll : List Call → Auction → List ℕ → Seen
@@ -86,6 +94,7 @@ playAll [] b bids = seen b bids
 playAll (arrive edges ∷ rest) b bids = afterArrive (playAll rest) bids (arriveOf b edges)
 playAll (withdraw item ∷ rest) b bids = afterWithdraw (playAll rest) bids (withdrawOf b item)
 playAll (check l p q ∷ rest) b bids = afterCheck (checkOf b l p q)
+playAll (readOut l ∷ rest) b bids = afterReadOut (readOutOf b l .lists) (readOutOf b l .answer)
 
 unfoldable pub opening : List Call → Auction → Opened → Seen
 opening calls b Opened.Ready = playAll calls b []

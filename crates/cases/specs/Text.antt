@@ -1,6 +1,6 @@
--- Case 1 as a text, and what the program prints.
+-- Cases as texts, refused ones among them, and what the program prints.
 use mathlib.Core.Path.{_≡_}
-use mathlib.Core.List.{List, [], _∷_, _++_}
+use mathlib.Core.List.{List, [], _∷_, _++_, map}
 use Prim.Native.Nat.{ℕ}
 use Rattle.history.specs.Plan.{sheetOf}
 use Rattle.cases.specs.Table.{Cases}
@@ -20,11 +20,54 @@ printed1 =
     ((89 ∷ 9 ∷ 50 ∷ 9 ∷ 54 ∷ 48 ∷ 10 ∷ []) ++
     ((84 ∷ 9 ∷ 49 ∷ 53 ∷ 48 ∷ 9 ∷ 49 ∷ 54 ∷ 53 ∷ 48 ∷ 9 ∷ 55 ∷ 10 ∷ []) ++ (69 ∷ 9 ∷ 49 ∷ 53 ∷ 48 ∷ 10 ∷ [])))))
 
--- 1 "The text above"
-abbrev pub Text1 : Type 0
-Text1 = sheetOf text1 ≡ printed1
+-- The same, and W, 1
+abbrev pub text2 : List ℕ
+text2 = text1 ++ (87 ∷ 9 ∷ 49 ∷ 10 ∷ [])
 
--- The starred cases: the table, and case 1 as a text
+-- P, 1, 2, 600; P, 2, 0, 0; Y, 2, 60; T, 60, 660, 7; E, 60
+abbrev pub printed2 : List ℕ
+printed2 =
+    (80 ∷ 9 ∷ 49 ∷ 9 ∷ 50 ∷ 9 ∷ 54 ∷ 48 ∷ 48 ∷ 10 ∷ []) ++
+    ((80 ∷ 9 ∷ 50 ∷ 9 ∷ 48 ∷ 9 ∷ 48 ∷ 10 ∷ []) ++
+    ((89 ∷ 9 ∷ 50 ∷ 9 ∷ 54 ∷ 48 ∷ 10 ∷ []) ++
+    ((84 ∷ 9 ∷ 54 ∷ 48 ∷ 9 ∷ 54 ∷ 54 ∷ 48 ∷ 9 ∷ 55 ∷ 10 ∷ []) ++ (69 ∷ 9 ∷ 54 ∷ 48 ∷ 10 ∷ []))))
+
+-- K, 2, 1, 10: the first line of the texts below
+abbrev pub firstLine1 : List ℕ
+firstLine1 = 75 ∷ 9 ∷ 50 ∷ 9 ∷ 49 ∷ 9 ∷ 49 ∷ 48 ∷ 10 ∷ []
+
+-- A text, and what the program prints
+pub record TextRow : Type 0 where
+  pub text : List ℕ
+  pub printed : List ℕ
+
+abbrev pub textRow : List ℕ → List ℕ → TextRow
+textRow s out = record { text = s; printed = out }
+
+unfoldable pub texts : List TextRow
+texts =
+    -- 1 "The text above"
+    textRow text1 printed1 ∷
+    -- 2 "Then kettle 1 withdrawn: batch 2 unplaced, worth 60, sum 660, no bid"
+    (textRow text2 printed2 ∷
+    -- "A refused text prints only `R`, number, line": A, 3, 5 names kettle 3 of 2, so R, 4, 2
+    (textRow (firstLine1 ++ (65 ∷ 9 ∷ 51 ∷ 9 ∷ 53 ∷ 10 ∷ [])) (82 ∷ 9 ∷ 52 ∷ 9 ∷ 50 ∷ 10 ∷ []) ∷
+    -- 14 "Kettle withdrawn twice: 5": W, 1; W, 1: R, 5, 3
+    (textRow (firstLine1 ++ ((87 ∷ 9 ∷ 49 ∷ 10 ∷ []) ++ (87 ∷ 9 ∷ 49 ∷ 10 ∷ []))) (82 ∷ 9 ∷ 53 ∷ 9 ∷ 51 ∷ 10 ∷ []) ∷
+    -- "a last line without byte 10 is 14": W, 1 without it: R, 14, 2
+    (textRow (firstLine1 ++ (87 ∷ 9 ∷ 49 ∷ [])) (82 ∷ 9 ∷ 49 ∷ 52 ∷ 9 ∷ 50 ∷ 10 ∷ []) ∷
+    -- "A line's form (14) is tested before its meaning": A, 3 has a kettle that is unknown, and no worth: R, 14, 2
+    (textRow (firstLine1 ++ (65 ∷ 9 ∷ 51 ∷ 10 ∷ [])) (82 ∷ 9 ∷ 49 ∷ 52 ∷ 9 ∷ 50 ∷ 10 ∷ []) ∷
+    -- 10 "Opening with 5/5: 2": K, 2, 5, 5: R, 2, 1
+    (textRow (75 ∷ 9 ∷ 50 ∷ 9 ∷ 53 ∷ 9 ∷ 53 ∷ 10 ∷ []) (82 ∷ 9 ∷ 50 ∷ 9 ∷ 49 ∷ 10 ∷ []) ∷
+    -- "an empty text is 14 at line 1"
+    (textRow [] (82 ∷ 9 ∷ 49 ∷ 52 ∷ 9 ∷ 49 ∷ 10 ∷ []) ∷ [])))))))
+
+-- Each text prints what the table has
+abbrev pub Texts : Type 0
+Texts = map (λ (r : TextRow). sheetOf (r .text)) texts ≡ map (λ (r : TextRow). r .printed) texts
+
+-- The starred cases: the table of calls, and the table of texts
 pub record Starred : Type 0 where
   pub calls : Cases
-  pub text : Text1
+  pub texts : Texts

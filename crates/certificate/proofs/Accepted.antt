@@ -19,7 +19,7 @@ use Rattle.certificate.specs.Accepted.{Accepted, TotalsAccepted, Accepte
 use Rattle.certificate.proofs.Places.{served-next, next-serves, served-both}
 use Rattle.certificate.proofs.Served.{clash-served, price-served, gain-served, bare-served}
 use Rattle.certificate.proofs.Tests.{lists-even}
-use Rattle.certificate.proofs.Outcomes.{listsOf, by-totals}
+use Rattle.certificate.proofs.Outcomes.{checked-totals, listsOf, by-totals}
 
 -- A plan's cells are items of the board, or 0
 pub cell-within : {n m : ℕ} {w : ℕ → ℕ → ℕ} {plan : ℕ → ℕ} → IsMatching n m w plan → (i : ℕ) → i < n → plan i ≤ m
@@ -79,7 +79,7 @@ module _ (b : Auction) (l : Lists) (p q : ℕ) where
 
 pub totals-accepted : TotalsAccepted
 unfolding checkOf
-totals-accepted b l p q weight sum e = accepted b l p q (by-totals b l _ weight sum e)
+totals-accepted b l p q weight sum e = accepted b l p q (by-totals b l _ _ _ (checked-totals _ weight sum e))
 
 pub accepted-totals : AcceptedTotals
 unfolding checkOf checkBy

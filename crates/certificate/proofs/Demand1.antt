@@ -1,6 +1,7 @@
 -- Demand 1 of the check, from the one law of verdicts.
 use mathlib.Core.Path.{_≡_, refl, ap}
 use mathlib.Core.Bool.{Bool, true, false, cond}
+use mathlib.Core.List.{List, [], _∷_, _++_}
 use mathlib.Core.Logic.{_⊎_, inl, inr, ⊎-elim}
 use Prim.Native.Nat.{ℕ, zero, suc, _+_, _-_, _*_, _≤_, _<_}
 use native.Mathlib.Nat.{suc-inj, mul-zero}
@@ -17,7 +18,7 @@ use Rattle.board.specs.Cells.{withdrawnAt, weightAt}
 use Rattle.board.specs.Live.{live}
 use Rattle.board.specs.Sound.{Sound}
 use Rattle.board.specs.Ranges.{SlackIn}
-use Rattle.refusals.specs.Demand1.{firstOf}
+use Rattle.refusals.specs.Demand1.{Check, codesOf, firstOf}
 use Rattle.board.specs.Lent.{Lists}
 use Rattle.board.proofs.Tests.{no-decides, slack-decides}
 use Rattle.board.proofs.SoundLaw.{sound-decides}
@@ -25,11 +26,11 @@ use Rattle.refusals.proofs.Verdicts.{Decided, next, decided-append, demand-1}
 use Rattle.certificate.specs.declared.Checked.{Checked}
 use Rattle.board.specs.Limits.{maxPrice}
 use Rattle.certificate.specs.Check.{Even, Clashes, PriceBad, Uncovered, CheckMet, clashChecks, priceTest, priceChecks, gainChecks, coveredTest, bareChecks, listChecks, checkRest, checkChecks, checkBy, checkOf}
-use Rattle.certificate.specs.Demand1.{CheckDemand1}
+use Rattle.certificate.specs.Demand1.{CheckDemand1, placesOf, CheckOrder}
 use Rattle.certificate.proofs.Fails.{Fails, Somewhere, not-fails, refail, fail-lt, fail-le, fail-eq, fail-not, fail-and, fail-or, fail-all}
 use Rattle.certificate.proofs.Places.{each-decided, clash-each, price-each, gain-each, bare-each}
 use Rattle.certificate.proofs.Tests.{lists-even}
-use Rattle.certificate.proofs.Outcomes.{by-totals}
+use Rattle.certificate.proofs.Outcomes.{checked-totals, checked-refused, by-totals}
 
 -- ---- A row of the table is what its test's failure says.
 
@@ -126,10 +127,10 @@ module _ (b : Auction) (l : Lists) (p q : ℕ) where
   uneven-met (CheckMet.uneven f) = f
 
   clash-met : (i : ℕ) → CheckMet b l p q (Clash (suc i)) → Clashes b (cells (l .plan)) i
-  clash-met i (CheckMet.clash x) = x
+  clash-met i (CheckMet.clash h x) = x
 
   bare-met : (i : ℕ) → CheckMet b l p q (Bare (suc i)) → Uncovered b p q (cells (l .prices)) (cells (l .gains)) i
-  bare-met i (CheckMet.bare x) = x
+  bare-met i (CheckMet.bare h x) = x
 
   -- A refusal 11 is an item's or a bidder's, by its place
   Priced : ℕ → Type 0
@@ -140,7 +141,7 @@ module _ (b : Auction) (l : Lists) (p q : ℕ) where
   priced : (n : ℕ) → CheckMet b l p q (Price n) → Priced n
   unfolding Priced
   priced n (CheckMet.price {k = k} h x) = inl (k, h, refl, x)
-  priced n (CheckMet.gain i x) = inr (i, refl, x)
+  priced n (CheckMet.gain i h x) = inr (i, refl, x)
 
   price-met : (k : ℕ) → k < b .market .items → CheckMet b l p q (Price (suc k)) → PriceBad b (cells (l .prices)) k
   unfolding Priced
@@ -161,7 +162,7 @@ module _ (b : Auction) (l : Lists) (p q : ℕ) where
   clash-decided : Decided (CheckMet b l p q) (clashChecks (b .market .items) (live b) (cells (l .plan)) 0 (b .market .arrived))
   clash-decided =
       rw clash-each (each-decided _ _ 0 (b .market .arrived)
-      (λ i h. reword (not-fails (clash-fails b (cells (l .plan)) i _ refl)) (λ x. CheckMet.clash x) (clash-met i)))
+      (λ i h. reword (not-fails (clash-fails b (cells (l .plan)) i _ refl)) (λ x. CheckMet.clash (omega arith) x) (clash-met i)))
 
   price-decided : Decided (CheckMet b l p q) (priceChecks (b .market .withdrawn) (cells (l .prices)) 0 (b .market .items))
   price-decided =
@@ -171,12 +172,12 @@ module _ (b : Auction) (l : Lists) (p q : ℕ) where
   gain-decided : Decided (CheckMet b l p q) (gainChecks (b .market .items) (cells (l .gains)) 0 (b .market .arrived))
   gain-decided =
       rw gain-each (each-decided _ _ 0 (b .market .arrived)
-      (λ i h. reword (not-fails (fail-le (cells (l .gains) i) maxPrice)) (λ x. CheckMet.gain i x) (gain-met i)))
+      (λ i h. reword (not-fails (fail-le (cells (l .gains) i) maxPrice)) (λ x. CheckMet.gain i (omega arith) x) (gain-met i)))
 
   bare-decided : Decided (CheckMet b l p q) (bareChecks (b .market .items) (live b) p q (cells (l .prices)) (cells (l .gains)) 0 (b .market .arrived))
   bare-decided =
       rw bare-each (each-decided _ _ 0 (b .market .arrived)
-      (λ i h. reword (not-fails (bare-fails b p q (cells (l .prices)) (cells (l .gains)) i)) (λ x. CheckMet.bare x) (bare-met i)))
+      (λ i h. reword (not-fails (bare-fails b p q (cells (l .prices)) (cells (l .gains)) i)) (λ x. CheckMet.bare (omega arith) x) (bare-met i)))
 
   check-decided : Decided (CheckMet b l p q) (checkChecks b l p q)
   unfolding checkRest listChecks
@@ -190,9 +191,42 @@ pub check-demand-1 : CheckDemand1
 unfolding checkOf checkBy
 check-demand-1 b l p q =
     demand-1 (check-decided b l p q)
-    (λ r. (λ e. rw e, λ e. by-refused r (firstOf (checkChecks b l p q)) e))
-    (λ e. rw e, λ e. by-totals b l (firstOf (checkChecks b l p q)) _ _ e)
+    (λ r. (λ e. rw e, λ e. by-refused r (firstOf (checkChecks b l p q)) (checked-refused _ r e)))
+    (λ e. rw e, λ e. by-totals b l (firstOf (checkChecks b l p q)) _ _ (checked-totals _ _ _ e))
   where
     by-refused : (r : Refusal) (v : Verdict) → checkBy b l v ≡ Checked.Refused r → v ≡ Refused r
     by-refused r Served e = let z : _≡_ {A = ℕ} 0 1 = cc in absurd (omega arith)
     by-refused r (Refused s) e = let h : s ≡ r = cc in ap Refused h
+
+-- ---- The order of the checks
+
+codes-both : (xs ys : List Check) → codesOf (xs ++ ys) ≡ codesOf xs ++ codesOf ys
+codes-both [] ys = refl
+codes-both (x ∷ xs) ys = rw (codes-both xs ys)
+
+module _ (b : Auction) (l : Lists) (p q : ℕ) where
+  clash-codes : (i n : ℕ) → codesOf (clashChecks (b .market .items) (live b) (cells (l .plan)) i n) ≡ placesOf 10 (suc i) n
+  unfolding clashChecks
+  clash-codes i zero = refl
+  clash-codes i (suc n) = rw (clash-codes (suc i) n)
+
+  price-codes : (k n : ℕ) → codesOf (priceChecks (b .market .withdrawn) (cells (l .prices)) k n) ≡ placesOf 11 (suc k) n
+  unfolding priceChecks
+  price-codes k zero = refl
+  price-codes k (suc n) = rw (price-codes (suc k) n)
+
+  gain-codes : (i n : ℕ) → codesOf (gainChecks (b .market .items) (cells (l .gains)) i n) ≡ placesOf 11 (b .market .items + suc i) n
+  unfolding gainChecks
+  gain-codes i zero = refl
+  gain-codes i (suc n) = let e : b .market .items + suc (suc i) ≡ suc (b .market .items + suc i) = omega arith in rw (gain-codes (suc i) n, e)
+
+  bare-codes : (i n : ℕ) → codesOf (bareChecks (b .market .items) (live b) p q (cells (l .prices)) (cells (l .gains)) i n) ≡ placesOf 12 (suc i) n
+  unfolding bareChecks
+  bare-codes i zero = refl
+  bare-codes i (suc n) = rw (bare-codes (suc i) n)
+
+pub check-order : CheckOrder
+unfolding checkRest listChecks
+check-order b l p q =
+    let n = b .market .arrived in
+    rw (codes-both, codes-both, codes-both, clash-codes b l p q 0 n, price-codes b l p q 0 (b .market .items), gain-codes b l p q 0 n, bare-codes b l p q 0 n)

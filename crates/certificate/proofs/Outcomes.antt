@@ -21,9 +21,13 @@ use Rattle.board.specs.SoundTest.{soundTest}
 use Rattle.refusals.specs.Demand1.{Check, firstOf}
 use Rattle.board.specs.Ranges.{slackTest}
 use Rattle.board.specs.Lent.{Lists}
-use Rattle.refusals.proofs.Verdicts.{first-on, first-stops}
+use Rattle.refusals.specs.Codes.{code}
+use Rattle.refusals.specs.Told.{refused}
+use Rattle.refusals.proofs.Verdicts.{codes-apart, first-on, first-stops}
+use Rattle.refusals.proofs.Answers.{numbered}
 use Rattle.certificate.specs.declared.Checked.{Checked}
-use Rattle.certificate.specs.Check.{evenTest, checkBy, checkOf, listChecks, checkRest}
+use Rattle.certificate.specs.declared.Totals.{Totals}
+use Rattle.certificate.specs.Check.{evenTest, checkBy, checkOf, listChecks, checkRest, totals, withoutTotals, checkedTold}
 
 -- A verdict on the first of two lists of checks stands, or leaves it to the second
 pub stops : (xs ys : List Check) (v : Verdict) (r : Refusal) → v ≡ firstOf xs → v ≡ Refused r → v ≡ firstOf (xs ++ ys)
@@ -35,6 +39,15 @@ passes xs ys v w e s h = h ∙ sym (first-on xs ys (sym e ∙ s))
 -- The refusals 10, 11 and 12 of a board
 abbrev pub listsOf : Auction → Lists → ℕ → ℕ → List Check
 listsOf b = listChecks (b .market .arrived) (b .market .items) (b .market .withdrawn) (live b)
+
+-- What is told of an answer names the answer
+pub checked-totals : (c : Checked) (weight sum : ℕ) → checkedTold c ≡ totals weight sum → c ≡ Checked.Totals (pence weight) (scaled sum)
+checked-totals (Checked.Totals w s) weight sum e = ap₂ Checked.Totals (ap pence (ap (λ (t : Totals). t .weight) e)) (ap scaled (ap (λ (t : Totals). t .total) e))
+checked-totals (Checked.Refused r) weight sum e = let z = ap (λ (t : Totals). t .number) e in absurd (omega (arith, numbered r))
+
+pub checked-refused : (c : Checked) (r : Refusal) → checkedTold c ≡ withoutTotals (refused r) → c ≡ Checked.Refused r
+checked-refused (Checked.Totals w s) r e = let z = ap (λ (t : Totals). t .number) e in absurd (omega (arith, numbered r))
+checked-refused (Checked.Refused s) r e = ap Checked.Refused (codes-apart s r (ap (λ (t : Totals). code (t .number) (t .place)) e))
 
 module _ (b : Auction) (l : Lists) where
   -- Totals come of no refusal

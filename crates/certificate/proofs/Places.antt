@@ -27,7 +27,7 @@ each refusal test i (suc n) = checkFor (refusal i) (not (test i)) ∷ each refus
 
 -- ---- The lists of refusals 10, 11 and 12 are such checks.
 
-pub price-each : (withdrawn : List Bool) (prices : ℕ → ℕ) (k n : ℕ) →
+pub price-each : (withdrawn : List ℕ) (prices : ℕ → ℕ) (k n : ℕ) →
     priceChecks withdrawn prices k n ≡ each (λ j. Price (suc j)) (priceTest withdrawn prices) k n
 unfolding priceChecks each
 price-each withdrawn prices k zero = refl

@@ -1,10 +1,9 @@
 -- What it means that none of the refusals 10, 11 and 12 is met.
 use mathlib.Core.Path.{_≡_}
-use mathlib.Core.Bool.{Bool, true, false}
+use mathlib.Core.Bool.{Bool, true}
 use mathlib.Core.List.{List}
 use mathlib.Core.Logic.{_↔_}
 use Prim.Native.Nat.{ℕ, _-_, _≤_, _<_}
-use lib.ListN.{getD}
 use Rattle.duality.specs.Matching.{IsMatching}
 use Rattle.duality.specs.Cover.{Covers}
 use Rattle.duality.specs.Decide.{Decides}
@@ -14,6 +13,7 @@ use Rattle.duality.proofs.TestsDecide.{matching-test-decides, covers-test-decid
 use Rattle.refusals.specs.declared.Verdict.the-variants.{Served}
 use Rattle.refusals.specs.Demand1.{firstOf}
 use Rattle.board.specs.Limits.{maxPrice}
+use Rattle.board.specs.Cells.{flagAt}
 use Rattle.certificate.specs.Check.{clashChecks, priceTest, priceChecks, gainChecks, coveredTest, bareChecks}
 use Rattle.certificate.proofs.Places.{each-all, clash-each, price-each, gain-each, bare-each}
 use Rattle.certificate.proofs.Tests.{price-decides}
@@ -23,11 +23,11 @@ agree : {t : Bool} {P Q : Type 0} → Decides t P → Decides t Q → P ↔ Q
 agree d e = (λ p. e .sound (d .complete p), λ q. d .sound (e .complete q))
 
 module _ (n : ℕ) where
-  pub price-served : (withdrawn : List Bool) (prices : ℕ → ℕ) →
+  pub price-served : (withdrawn : List ℕ) (prices : ℕ → ℕ) →
       (firstOf (priceChecks withdrawn prices 0 n) ≡ Served) ↔
-      ((k : ℕ) → k < n → (prices k ≤ maxPrice) × (getD withdrawn k false ≡ true → prices k ≡ 0))
+      ((k : ℕ) → k < n → (prices k ≤ maxPrice) × (flagAt withdrawn k ≡ true → prices k ≡ 0))
   unfolding priceTest
-  price-served withdrawn prices = rw price-each (agree (each-all _ _ n) (all-decides n _ _ (λ k. price-decides (prices k) (getD withdrawn k false))))
+  price-served withdrawn prices = rw price-each (agree (each-all _ _ n) (all-decides n _ _ (λ k. price-decides (prices k) (flagAt withdrawn k))))
 
   module _ (items : ℕ) where
     pub gain-served : (gains : ℕ → ℕ) → (firstOf (gainChecks items gains 0 n) ≡ Served) ↔ ((i : ℕ) → i < n → gains i ≤ maxPrice)

@@ -6,16 +6,13 @@ use Rattle.duality.specs.Matching.{IsMatching, weightOf}
 use Rattle.duality.specs.Cover.{Covers, total}
 use Rattle.duality.specs.Lists.{cells}
 use Rattle.board.specs.declared.record.Auction.{Auction}
-use Rattle.board.specs.declared.units.Pence.{Pence}
-use Rattle.board.specs.declared.units.Scaled.{Scaled}
-use Rattle.board.specs.Cells.{pence, scaled, withdrawnAt}
+use Rattle.board.specs.Cells.{withdrawnAt}
 use Rattle.board.specs.Live.{live}
 use Rattle.board.specs.Sound.{Sound}
 use Rattle.board.specs.Ranges.{SlackIn}
 use Rattle.board.specs.Lent.{Lists}
-use Rattle.certificate.specs.declared.Checked.{Checked}
 use Rattle.board.specs.Limits.{maxPrice}
-use Rattle.certificate.specs.Check.{Even, checkOf}
+use Rattle.certificate.specs.Check.{Even, checkOf, totals, checkedTold}
 
 -- "The check takes a sound board, a plan, a price and a gain list of exact length, and a slack, here with p from 0"
 pub record Accepted (b : Auction) (l : Lists) (p q : ℕ) : Type 0 where
@@ -32,12 +29,12 @@ pub record Accepted (b : Auction) (l : Lists) (p q : ℕ) : Type 0 where
   pub covers : Covers (b .market .arrived) (b .market .items) (live b) (q - p) (cells (l .prices)) (cells (l .gains))
 
 abbrev pub TotalsAccepted : Type 0
-TotalsAccepted = (b : Auction) (l : Lists) (p q : ℕ) (weight : Pence) (sum : Scaled) → checkOf b l p q ≡ Checked.Totals weight sum → Accepted b l p q
+TotalsAccepted = (b : Auction) (l : Lists) (p q weight sum : ℕ) → checkedTold (checkOf b l p q) ≡ totals weight sum → Accepted b l p q
 
 -- "It answers the plan's worth and the sum of prices and gains"
 abbrev pub AcceptedTotals : Type 0
 AcceptedTotals =
     (b : Auction) (l : Lists) (p q : ℕ) →
     Accepted b l p q →
-    checkOf b l p q ≡
-    Checked.Totals (pence (weightOf (b .market .arrived) (live b) (cells (l .plan)))) (scaled (total (b .market .arrived) (b .market .items) (cells (l .prices)) (cells (l .gains))))
+    checkedTold (checkOf b l p q) ≡
+    totals (weightOf (b .market .arrived) (live b) (cells (l .plan))) (total (b .market .arrived) (b .market .items) (cells (l .prices)) (cells (l .gains)))

@@ -1,9 +1,9 @@
 -- What the check answers, on all inputs.
 use mathlib.Core.Path.{_≡_}
-use mathlib.Core.Bool.{Bool, true, false, not, _&&_, _||_}
+use mathlib.Core.Bool.{Bool, true, not, _&&_, _||_}
 use mathlib.Core.List.{List, [], _∷_, _++_}
 use Prim.Native.Nat.{ℕ, zero, suc, _+_, _-_, _*_, _≤_, _<_}
-use lib.ListN.{length, getD}
+use lib.ListN.{length}
 use lib.Dec.{eqb, leb}
 use Rattle.duality.specs.Matching.{weightOf}
 use Rattle.duality.specs.Cover.{total}
@@ -14,7 +14,9 @@ use Rattle.board.specs.declared.record.Auction.{Auction}
 use Rattle.refusals.specs.declared.Refusal.{Refusal}
 use Rattle.refusals.specs.declared.Refusal.the-variants.{Slack, Uneven, Clash, Price, Bare, Spoilt}
 use Rattle.refusals.specs.declared.Verdict.{Verdict}
-use Rattle.board.specs.Cells.{pence, scaled, withdrawnAt, weightAt}
+use Rattle.refusals.specs.declared.Told.{Told}
+use Rattle.refusals.specs.Told.{refused}
+use Rattle.board.specs.Cells.{pence, scaled, flagAt, withdrawnAt, weightAt}
 use Rattle.board.specs.Live.{live}
 use Rattle.board.specs.Sound.{Sound}
 use Rattle.board.specs.Ranges.{SlackIn, slackTest}
@@ -22,6 +24,7 @@ use Rattle.board.specs.SoundTest.{soundTest}
 use Rattle.refusals.specs.Demand1.{Check, checkFor, firstOf}
 use Rattle.board.specs.Lent.{Lists}
 use Rattle.certificate.specs.declared.Checked.{Checked}
+use Rattle.certificate.specs.declared.Totals.{Totals}
 use Rattle.board.specs.Limits.{maxPrice}
 
 -- ---- The rows of the table, in its words. The lists are read by cell: bidder i + 1 is cell i, item k + 1 is cell k.
@@ -58,11 +61,11 @@ pub data CheckMet (b : Auction) (l : Lists) (p q : ℕ) : Refusal → Type 0 whe
   slack : (SlackIn 0 p q → ⊥) → CheckMet b l p q Slack
   uneven : (Even b l → ⊥) → CheckMet b l p q Uneven
   -- The place is the bidder's number
-  clash : {i : ℕ} → Clashes b (cells (l .plan)) i → CheckMet b l p q (Clash (suc i))
+  clash : {i : ℕ} → i < b .market .arrived → Clashes b (cells (l .plan)) i → CheckMet b l p q (Clash (suc i))
   -- The place is the item's number, "or k + batch for a gain"
   price : {k : ℕ} → k < b .market .items → PriceBad b (cells (l .prices)) k → CheckMet b l p q (Price (suc k))
-  gain : (i : ℕ) → maxPrice < cells (l .gains) i → CheckMet b l p q (Price (b .market .items + suc i))
-  bare : {i : ℕ} → Uncovered b p q (cells (l .prices)) (cells (l .gains)) i → CheckMet b l p q (Bare (suc i))
+  gain : (i : ℕ) → i < b .market .arrived → maxPrice < cells (l .gains) i → CheckMet b l p q (Price (b .market .items + suc i))
+  bare : {i : ℕ} → i < b .market .arrived → Uncovered b p q (cells (l .prices)) (cells (l .gains)) i → CheckMet b l p q (Bare (suc i))
 
 -- Prices or gains that are all within the limit
 abbrev pub Capped : List ℕ → Type 0
@@ -79,10 +82,10 @@ clashChecks items w plan i zero = []
 clashChecks items w plan i (suc n) = checkFor (Clash (suc i)) (not (cellTest items w plan i (plan i))) ∷ clashChecks items w plan (suc i) n
 
 -- Refusal 11: prices against the flags of the withdrawn items, and gains. Items from cell k on, bidders from cell i on, n of them
-unfoldable pub priceTest : List Bool → (ℕ → ℕ) → ℕ → Bool
-priceTest withdrawn prices k = leb (prices k) maxPrice && (not (getD withdrawn k false) || eqb (prices k) 0)
+unfoldable pub priceTest : List ℕ → (ℕ → ℕ) → ℕ → Bool
+priceTest withdrawn prices k = leb (prices k) maxPrice && (not (flagAt withdrawn k) || eqb (prices k) 0)
 
-unfoldable pub priceChecks : List Bool → (ℕ → ℕ) → ℕ → ℕ → List Check
+unfoldable pub priceChecks : List ℕ → (ℕ → ℕ) → ℕ → ℕ → List Check
 priceChecks withdrawn prices k zero = []
 priceChecks withdrawn prices k (suc n) = checkFor (Price (suc k)) (not (priceTest withdrawn prices k)) ∷ priceChecks withdrawn prices (suc k) n
 
@@ -101,7 +104,7 @@ bareChecks items w p q prices gains i (suc n) =
     checkFor (Bare (suc i)) (not (coveredTest items (w i) p q prices (gains i))) ∷ bareChecks items w p q prices gains (suc i) n
 
 -- The lists themselves: "10, 11, 12". Of so many bidders and items, the flags of the withdrawn items, and the live weights w
-unfoldable pub listChecks : ℕ → ℕ → List Bool → (ℕ → ℕ → ℕ) → Lists → ℕ → ℕ → List Check
+unfoldable pub listChecks : ℕ → ℕ → List ℕ → (ℕ → ℕ → ℕ) → Lists → ℕ → ℕ → List Check
 listChecks bidders items withdrawn w l p q =
     clashChecks items w (cells (l .plan)) 0 bidders ++
     (priceChecks withdrawn (cells (l .prices)) 0 items ++
@@ -128,3 +131,15 @@ checkBy b l (Verdict.Refused r) = Checked.Refused r
 -- The lists are only read, and the board is taken by value
 unfoldable pub checkOf : Auction → Lists → ℕ → ℕ → Checked
 checkOf b l p q = checkBy b l (firstOf (checkChecks b l p q))
+
+-- ---- What is told: number 0 with the two totals, or the refusal without them
+
+abbrev pub totals : ℕ → ℕ → Totals
+totals weight sum = record { number = 0; place = 0; weight = weight; total = sum }
+
+abbrev pub withoutTotals : Told → Totals
+withoutTotals t = record { number = t .number; place = t .place; weight = 0; total = 0 }
+
+abbrev pub checkedTold : Checked → Totals
+checkedTold (Checked.Totals w s) = totals (w .0) (s .0)
+checkedTold (Checked.Refused r) = withoutTotals (refused r)

@@ -1,21 +1,39 @@
--- Demand 1 of the check.
+-- Demand 1 of the check, told in numbers.
 use mathlib.Core.Path.{_≡_}
-use Prim.Native.Nat.{ℕ}
+use mathlib.Core.List.{List, [], _∷_, _++_}
+use Prim.Native.Nat.{ℕ, zero, suc, _+_}
 use Rattle.duality.specs.Matching.{weightOf}
 use Rattle.duality.specs.Cover.{total}
 use Rattle.duality.specs.Lists.{cells}
 use Rattle.board.specs.declared.record.Auction.{Auction}
-use Rattle.board.specs.Cells.{pence, scaled}
 use Rattle.board.specs.Live.{live}
-use Rattle.refusals.specs.Demand1.{Demand1}
+use Rattle.refusals.specs.Codes.{Code, code}
+use Rattle.refusals.specs.Told.{refused}
+use Rattle.refusals.specs.Demand1.{codesOf, Demand1}
 use Rattle.board.specs.Lent.{Lists}
-use Rattle.certificate.specs.declared.Checked.{Checked}
-use Rattle.certificate.specs.Check.{CheckMet, checkChecks, checkOf}
+use Rattle.certificate.specs.Check.{CheckMet, checkChecks, checkOf, totals, withoutTotals, checkedTold}
 
+-- Served, "It answers the plan's worth and the sum of prices and gains"
 abbrev pub CheckDemand1 : Type 0
 CheckDemand1 =
     (b : Auction) (l : Lists) (p q : ℕ) →
     Demand1 (CheckMet b l p q) (checkChecks b l p q)
-    (λ r. checkOf b l p q ≡ Checked.Refused r)
-    (checkOf b l p q ≡
-    Checked.Totals (pence (weightOf (b .market .arrived) (live b) (cells (l .plan)))) (scaled (total (b .market .arrived) (b .market .items) (cells (l .prices)) (cells (l .gains)))))
+    (λ r. checkedTold (checkOf b l p q) ≡ withoutTotals (refused r))
+    (checkedTold (checkOf b l p q) ≡
+    totals (weightOf (b .market .arrived) (live b) (cells (l .plan))) (total (b .market .arrived) (b .market .items) (cells (l .prices)) (cells (l .gains))))
+
+-- One number at n places, from place i on
+abbrev pub placesOf : ℕ → ℕ → ℕ → List Code
+placesOf number i zero = []
+placesOf number i (suc n) = code number i ∷ placesOf number (suc i) n
+
+-- "Check 13, 2, 9, 10, 11, 12, lowest place first": 10 at each bidder, 11 at each item and then at "k + batch for a gain", 12 at each bidder
+abbrev pub CheckOrder : Type 0
+CheckOrder =
+    (b : Auction) (l : Lists) (p q : ℕ) →
+    codesOf (checkChecks b l p q) ≡
+    code 13 0 ∷ code 2 0 ∷ code 9 0 ∷
+    (placesOf 10 1 (b .market .arrived) ++
+    (placesOf 11 1 (b .market .items) ++
+    (placesOf 11 (b .market .items + 1) (b .market .arrived) ++
+    placesOf 12 1 (b .market .arrived))))

@@ -28,13 +28,13 @@ fn price_holds(price: u64, withdrawn: bool) -> bool
 }
 
 // Refusal 11 at an item: the first whose price does not hold.
-pub(crate) fn prices_verdict(withdrawn: &[bool; Auction::MAX_ITEMS], prices: &[u64]) -> Verdict
+pub(crate) fn prices_verdict(withdrawn: &[u8; Auction::MAX_ITEMS], prices: &[u64]) -> Verdict
     requires { ⌜ length (now prices) ≤ maxItems ⌝ }
     ensures { λ r. ⌜ r ≡ firstOf (priceChecks (now (withdrawn .entry)) (cells (now (prices .entry))) 0 (length (now (prices .entry)))) ⌝ }
 {
     let mut k: usize = 0;
     while k < prices.len() {
-        if !price_holds(prices[k], withdrawn[k]) {
+        if !price_holds(prices[k], withdrawn[k] != 0) {
             return Verdict::Refused(Refusal::Price(k as u64 + 1));
         }
         k += 1;
@@ -60,7 +60,7 @@ pub(crate) fn gains_verdict(items: u64, gains: &[u64]) -> Verdict
 // Whether every live edge of a bidder is covered.
 fn row_covered<'a>(
     weights: &'a [u32; Auction::MAX_CELLS],
-    withdrawn: &'a [bool; Auction::MAX_ITEMS],
+    withdrawn: &'a [u8; Auction::MAX_ITEMS],
     slack: Slack,
     prices: &[u64],
     bidder: usize,
@@ -83,7 +83,7 @@ fn row_covered<'a>(
 // Refusal 12: the first bidder with a live edge that is not covered.
 pub(crate) fn cover_verdict<'a>(
     weights: &'a [u32; Auction::MAX_CELLS],
-    withdrawn: &'a [bool; Auction::MAX_ITEMS],
+    withdrawn: &'a [u8; Auction::MAX_ITEMS],
     slack: Slack,
     prices: &[u64],
     gains: &[u64],

@@ -32,6 +32,15 @@ pub enum Checked {
     Refused(Refusal),
 }
 
+// The same in numbers: the weight in pence, the sum in q-ths of a penny.
+#[repr(C)]
+pub struct Totals {
+    pub number: u64,
+    pub place: u64,
+    pub weight: u64,
+    pub total: u64,
+}
+
 // Refusal 9: whether three lists have a cell for each bidder, item and bidder, and no more.
 fn is_even(bidders: usize, items: usize, plan: usize, prices: usize, gains: usize) -> bool
     ensures { λ r. ⌜ r ≡ evenTest bidders items plan prices gains ⌝ }
@@ -48,7 +57,7 @@ fn is_even(bidders: usize, items: usize, plan: usize, prices: usize, gains: usiz
 // Refusals 10, 11 and 12, for lists of the right lengths.
 fn lists_verdict<'a>(
     weights: &'a [u32; Auction::MAX_CELLS],
-    withdrawn: &'a [bool; Auction::MAX_ITEMS],
+    withdrawn: &'a [u8; Auction::MAX_ITEMS],
     slack: Slack,
     plan: &[u64],
     prices: &[u64],

@@ -10,7 +10,7 @@ ghost use Rattle.board.specs.Live.{liveOf};
 // The weight of the live edge between a bidder and an item, 0 where there is none.
 pub(crate) fn live_weight<'a>(
     weights: &'a [u32; Auction::MAX_CELLS],
-    withdrawn: &'a [bool; Auction::MAX_ITEMS],
+    withdrawn: &'a [u8; Auction::MAX_ITEMS],
     bidder: usize,
     item: usize,
 ) -> Pence
@@ -18,7 +18,7 @@ pub(crate) fn live_weight<'a>(
     ensures { λ r. ⌜ (r .0 ≡ liveOf (now (withdrawn .entry)) (now (weights .entry)) bidder item) × (r .0 < wordLimit) ⌝ }
 {
     let weight = weight_in(weights[bidder * Auction::MAX_ITEMS + item]);
-    if withdrawn[item] {
+    if withdrawn[item] != 0 {
         return Pence(0);
     }
     weight

@@ -36,7 +36,7 @@ fn is_fresh(plan: &[u64], bidder: usize, item: u64) -> bool
 // A bidder's cell: 0, or an item with a live edge to it that no earlier bidder names.
 fn cell_holds<'a>(
     weights: &'a [u32; Auction::MAX_CELLS],
-    withdrawn: &'a [bool; Auction::MAX_ITEMS],
+    withdrawn: &'a [u8; Auction::MAX_ITEMS],
     items: u64,
     plan: &[u64],
     bidder: usize,
@@ -61,7 +61,7 @@ fn cell_holds<'a>(
 // Refusal 10: the first bidder whose cell does not hold.
 pub(crate) fn plan_verdict<'a>(
     weights: &'a [u32; Auction::MAX_CELLS],
-    withdrawn: &'a [bool; Auction::MAX_ITEMS],
+    withdrawn: &'a [u8; Auction::MAX_ITEMS],
     items: u64,
     plan: &[u64],
 ) -> Verdict
@@ -81,7 +81,7 @@ pub(crate) fn plan_verdict<'a>(
 // The weight of the edge that a bidder's cell uses, 0 where the cell is 0.
 fn cell_weight<'a>(
     weights: &'a [u32; Auction::MAX_CELLS],
-    withdrawn: &'a [bool; Auction::MAX_ITEMS],
+    withdrawn: &'a [u8; Auction::MAX_ITEMS],
     bidder: usize,
     cell: u64,
 ) -> Pence
@@ -97,7 +97,7 @@ fn cell_weight<'a>(
 // The weight of a matching: all edges used, added.
 pub(crate) fn plan_weight<'a>(
     weights: &'a [u32; Auction::MAX_CELLS],
-    withdrawn: &'a [bool; Auction::MAX_ITEMS],
+    withdrawn: &'a [u8; Auction::MAX_ITEMS],
     plan: &[u64],
 ) -> Pence
     requires { ⌜ (length (now plan) ≤ maxBidders) × ((i : ℕ) → i < length (now plan) → cells (now plan) i ≤ maxItems) ⌝ }

@@ -10,8 +10,10 @@ use Rattle.auction.specs.ReadOut as calls
 use Rattle.history.specs.declared.planning.Planned.{Planned}
 use Rattle.history.specs.Plan.{PlanOutcome}
 use Rattle.history.specs.Plan as plan
-use Rattle.exports.specs.declared.answers.Told.{Told}
-use Rattle.exports.specs.Answers.{answered, toldLists, readOutTold, readOutAnswer, toldBytes, plannedTold, planAnswer}
+use Rattle.refusals.specs.declared.Told.{Told}
+use Rattle.auction.specs.ReadOut.{readOutTold}
+use Rattle.history.specs.Demand1.{plannedTold}
+use Rattle.exports.specs.Answers.{answered, toldLists, readOutAnswer, toldBytes, planAnswer}
 
 pub told-done : {A B : Type 0} (f : A → B) {x : A} {y : B} {o : Outcome A} → done x ≡ o → y ≡ f x → done y ≡ answered f o
 told-done f e t = ap done t ∙ ap (answered f) e

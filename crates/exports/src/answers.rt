@@ -8,39 +8,32 @@ use board::opening::Opened;
 use board::opening::Opening;
 use board::record::Auction;
 use certificate::Checked;
+use certificate::Totals;
 use history::planning::Planned;
 use hungarian::exact::Greatest;
 use refusals::Refusal;
+use refusals::Told;
 use replay::Ending;
 use replay::Replayed;
 ghost use mathlib.Core.Path.{_≡_};
-ghost use Rattle.exports.specs.Answers.{served, refused, stoppedAt, withBoard, openedTold, openAnswer, arrivedTold, arrivalAnswer, withdrawnTold, withdrawalAnswer};
-ghost use Rattle.exports.specs.Answers.{readOutTold, exactTold, totalsOf, endingTold, replayAnswer, plannedTold};
+ghost use Rattle.refusals.specs.Told.{served, refused, refusedAt};
+ghost use Rattle.board.specs.Opening.{openedTold};
+ghost use Rattle.auction.specs.Arrive.{arrivedTold};
+ghost use Rattle.auction.specs.Withdraw.{withdrawnTold};
+ghost use Rattle.auction.specs.ReadOut.{readOutTold};
+ghost use Rattle.hungarian.specs.Exact.{exactTold};
+ghost use Rattle.certificate.specs.Check.{checkedTold};
+ghost use Rattle.replay.specs.TextDemand1.{endingTold};
+ghost use Rattle.history.specs.Demand1.{plannedTold};
+ghost use Rattle.exports.specs.Answers.{withBoard, openAnswer, arrivalAnswer, withdrawalAnswer, replayAnswer};
 
-// A call's answer. Number 0 says that the call served, with a value where it has one. Any other number is the refusal's, with its place.
-#[repr(C)]
-pub struct Told {
-    pub number: u64,
-    pub place: u64,
-    pub value: u64,
-}
-
-// The same beside a board.
+// What a call answers in numbers, beside a board.
 #[repr(C)]
 pub struct Answer {
     pub board: Auction,
     pub number: u64,
     pub place: u64,
     pub value: u64,
-}
-
-// The answer of the check: the matching's weight in pence, and the sum of prices and gains in q-ths of a penny.
-#[repr(C)]
-pub struct Totals {
-    pub number: u64,
-    pub place: u64,
-    pub weight: u64,
-    pub total: u64,
 }
 
 // The call served.
@@ -56,7 +49,7 @@ fn serving(value: u64) -> Told
 
 // A text refused at a line: the place is the line.
 fn stopping(refusal: Refusal, line: u64, value: u64) -> Told
-    ensures { λ r. ⌜ r ≡ stoppedAt refusal line value ⌝ }
+    ensures { λ r. ⌜ r ≡ refusedAt refusal line value ⌝ }
 {
     Told {
         number: refusal.number(),
@@ -160,7 +153,7 @@ pub(crate) fn exact_told(answer: Greatest) -> Told
 
 // What the check answers.
 pub(crate) fn totals_of(answer: Checked) -> Totals
-    ensures { λ r. ⌜ r ≡ totalsOf answer ⌝ }
+    ensures { λ r. ⌜ r ≡ checkedTold answer ⌝ }
 {
     match answer {
         Checked::Totals(weight, sum) => Totals {

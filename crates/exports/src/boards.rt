@@ -1,6 +1,5 @@
 // The calls that make a board, change it and read it.
 use crate::answers::Answer;
-use crate::answers::Told;
 use crate::answers::arrival_answer;
 use crate::answers::open_answer;
 use crate::answers::read_out_told;
@@ -13,6 +12,7 @@ use auction::withdraw::withdraw;
 use board::record::Auction;
 use board::record::Edge;
 use board::sound::is_sound;
+use refusals::Told;
 ghost use mathlib.Core.Path.{_≡_};
 ghost use Rattle.board.specs.SoundTest.{soundTest};
 ghost use Rattle.bidding.specs.Rule.{done};

@@ -1,15 +1,15 @@
 // The exact level, and the check of lists that were made elsewhere.
-use crate::answers::Told;
-use crate::answers::Totals;
 use crate::answers::exact_told;
 use crate::answers::totals_of;
 use board::record::Auction;
+use certificate::Totals;
 use certificate::check;
 use hungarian::exact::exact;
+use refusals::Told;
 ghost use mathlib.Core.Path.{_≡_};
 ghost use Rattle.board.specs.Lent.{lists};
-ghost use Rattle.certificate.specs.Check.{checkOf};
-ghost use Rattle.exports.specs.Answers.{ExactAnswer, totalsOf};
+ghost use Rattle.certificate.specs.Check.{checkOf, checkedTold};
+ghost use Rattle.exports.specs.Answers.{ExactAnswer};
 
 // Writes a matching of greatest weight, and prices and gains that show it, into three lent lists. The value is that weight.
 #[no_mangle]
@@ -35,7 +35,7 @@ pub extern "C" fn noughtelm_check(
     p: u64,
     q: u64,
 ) -> Totals
-    ensures { λ r. ⌜ r ≡ totalsOf (checkOf board (lists (now (plan .entry)) (now (prices .entry)) (now (gains .entry))) p q) ⌝ }
+    ensures { λ r. ⌜ r ≡ checkedTold (checkOf board (lists (now (plan .entry)) (now (prices .entry)) (now (gains .entry))) p q) ⌝ }
 {
     let answer = check(board, plan, prices, gains, p, q);
     totals_of(answer)

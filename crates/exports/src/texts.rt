@@ -1,18 +1,17 @@
 // The calls on a history text. The place of a refusal is the line.
 use crate::answers::Answer;
-use crate::answers::Told;
 use crate::answers::planned_told;
 use crate::answers::replay_answer;
-use history::planning::MAX_OUTPUT;
 use history::planning::plan_text;
+use history::planning::print_text;
 use history::planning::refusal_line;
-use history::planning::sheet_text;
+use refusals::Told;
 use replay::replay;
 ghost use mathlib.Core.Path.{_≡_};
 ghost use Rattle.bidding.specs.Rule.{done};
 ghost use Rattle.replay.specs.Replay.{replayOf};
 ghost use Rattle.history.specs.Output.{refusalLine};
-ghost use Rattle.history.specs.Plan.{fitted, planOf, SheetWritten};
+ghost use Rattle.history.specs.Plan.{fitted, planOf, sheetOf};
 ghost use Rattle.exports.specs.Answers.{answered, replayAnswer, toldBytes, planAnswer};
 
 // Replays a text. The value is the number of bids in all, up to the refusal where there is one.
@@ -42,10 +41,11 @@ pub extern "C" fn noughtelm_refusal_line(number: u64, line: u64, out: &mut [u8])
     planned_told(planned)
 }
 
-// Writes what the program prints, and answers how many bytes that is; further cells are as they were.
+// Writes what the program prints, a plan or a refusal. The value is the number of bytes.
 #[no_mangle]
-pub extern "C" fn noughtelm_sheet_text(text: &[u8], out: &mut [u8; MAX_OUTPUT]) -> usize
-    ensures { λ r. ⌜ SheetWritten (now (text .entry)) (now (out .entry)) (now (out .exit)) r ⌝ }
+pub extern "C" fn noughtelm_sheet_text(text: &[u8], out: &mut [u8]) -> Told
+    ensures { λ r. ⌜ toldBytes r (now (out .exit)) ≡ planAnswer (fitted (sheetOf (now (text .entry))) (now (out .entry))) ⌝ }
 {
-    sheet_text(text, out)
+    let printed = print_text(text, out);
+    planned_told(printed)
 }

@@ -1,22 +1,22 @@
 -- What the check says of the lists that the exact level and the read-out leave.
-use mathlib.Core.Path.{_≡_, sym, ap, ap₂, _∙_}
+use mathlib.Core.Path.{_≡_, refl, sym, ap, ap₂, _∙_}
 use Prim.Native.Nat.{ℕ, _+_, _-_, _*_, _≤_, _<_}
 use native.Mathlib.Nat.{le-trans}
 use native.Mathlib.Omega.{arith}
 use lib.ListN.{take}
 use lib.Seq.{length-take-le}
-use Rattle.duality.specs.Lists.{cells, sum}
+use Rattle.duality.specs.Lists.{cells}
 use Rattle.duality.specs.Matching.{weightOf}
 use Rattle.duality.specs.Cover.{Tight, total}
 use Rattle.duality.proofs.Agree.{weight-as, total-as, matching-as, covers-as}
 use Rattle.duality.proofs.ComplementarySlackness.{complementary-slackness}
 use Rattle.duality.proofs.EqualExactlyWhenBest.{total-lists}
 use Rattle.board.specs.Limits.{maxWeight}
-use Rattle.board.specs.Cells.{pence, scaled, priceAt, gainAt}
+use Rattle.board.specs.Cells.{priceAt, gainAt}
 use Rattle.board.specs.Live.{live, matchingOf}
 use Rattle.board.specs.Sound.{Sound}
 use Rattle.board.specs.Lent.{Lists, lists}
-use Rattle.auction.specs.ReadOut.{readOutOf}
+use Rattle.auction.specs.ReadOut.{ReadOutcome, readOutOf, readOutTold}
 use Rattle.auction.specs.Demand2.{Reads}
 use Rattle.auction.proofs.CallVerdicts.{read-out-written}
 use Rattle.board.proofs.SoundLaw.{sound-decides}
@@ -25,15 +25,13 @@ use Rattle.auction.proofs.ReadOuts.{read-out-demand-2}
 use Rattle.auction.proofs.Histories.{history-demand-2}
 use Rattle.hungarian.specs.Exact.{Shows}
 use Rattle.hungarian.specs.Demand3.{ShowsBest}
-use Rattle.hungarian.proofs.Exacts.{best-on, exact-is-best}
-use Rattle.certificate.specs.declared.Checked.{Checked}
+use Rattle.hungarian.proofs.Exacts.{best-on, shown-equal, exact-is-best, exact-gives-demand-3}
+use Rattle.certificate.specs.declared.Totals.{Totals}
+use Rattle.certificate.specs.Check.{totals}
 use Rattle.certificate.proofs.Accepted.{totals-accepted, accepted-totals}
 use Rattle.guarantees.specs.Checks.{cut, ExactAccepted, EqualTotalsBest, ReadOutAccepted}
 use Rattle.guarantees.proofs.Modest.{Modest, live-light, reached-modest}
 use Rattle.guarantees.proofs.Bounds.{price-below, gain-below, cut-cell}
-
-totals : (w x s t : ℕ) → w ≡ x → s ≡ t → Checked.Totals (pence w) (scaled s) ≡ Checked.Totals (pence x) (scaled t)
-totals w x s t e f = ap₂ (λ a b. Checked.Totals (pence a) (scaled b)) e f
 
 pub exact-accepted : ExactAccepted
 exact-accepted b before after answer s room o =
@@ -46,22 +44,22 @@ exact-accepted b before after answer s room o =
         prices = length-take-le (b .market .items) (after .prices) (omega (arith, shown .prices .size, room .prices));
         gains = length-take-le (b .market .arrived) (after .gains) (omega (arith, shown .gains .size, room .gains));
       };
-      matches = matching-as plan (shown .equal .matches);
+      matches = matching-as plan (shown .matches);
       prices = λ k l. le-trans (same-below (prices k l) (price-below tight maxWeight (live-light b s) k l)) (omega arith);
       withdrawn = λ k l gone. prices k l ∙ shown .withdrawn k l gone;
       gains = λ i l. le-trans (same-below (gains i l) (gain-below tight maxWeight (live-light b s) i l)) (omega arith);
-      covers = covers-as _ _ (live b) 1 (cells (after .prices)) _ (cells (after .gains)) _ prices gains (shown .equal .covers);
+      covers = covers-as _ _ (live b) 1 (cells (after .prices)) _ (cells (after .gains)) _ prices gains (shown .covers);
     })
-    ∙ totals _ _ _ _ (weight-as _ (live b) (cells (after .plan)) _ plan ∙ best .weight) (total-as _ _ (cells (after .prices)) _ (cells (after .gains)) _ prices gains ∙ best .sum)
+    ∙ ap₂ totals (weight-as _ (live b) (cells (after .plan)) _ plan ∙ best .weight) (total-as _ _ (cells (after .prices)) _ (cells (after .gains)) _ prices gains ∙ best .sum)
   where
     shown : Shows b before answer after
-    shown = o .demand3 .exact s room
+    shown = exact-gives-demand-3 b before after answer o .exact s room
 
-    best : ShowsBest b after
+    best : ShowsBest b answer after
     best = exact-is-best b before after answer shown
 
     tight : Tight (b .market .arrived) (b .market .items) (live b) 1 (cells (after .plan)) (cells (after .prices)) (cells (after .gains))
-    tight = complementary-slackness (b .market .arrived) (b .market .items) (live b) (cells (after .plan)) (cells (after .prices)) (cells (after .gains)) (shown .equal)
+    tight = complementary-slackness (b .market .arrived) (b .market .items) (live b) (cells (after .plan)) (cells (after .prices)) (cells (after .gains)) (shown-equal shown)
 
     plan : (i : ℕ) → i < b .market .arrived → cells (take (b .market .arrived) (after .plan)) i ≡ cells (after .plan) i
     plan i l = cut-cell (b .market .arrived) (after .plan) i l
@@ -78,14 +76,12 @@ exact-accepted b before after answer s room o =
 pub equal-totals-best : EqualTotalsBest
 equal-totals-best b l weight sum′ e =
     let a = totals-accepted b l 0 1 weight sum′ e in
-    let t = accepted-totals b l 0 1 a in
-    let same : Checked.Totals weight sum′ ≡
-    Checked.Totals (pence (weightOf (b .market .arrived) (live b) (cells (l .plan)))) (scaled (total (b .market .arrived) (b .market .items) (cells (l .prices)) (cells (l .gains)))) = sym e ∙ t in
-    let w : weight ≡ pence (weightOf (b .market .arrived) (live b) (cells (l .plan))) = cc in
-    let s : sum′ ≡ scaled (total (b .market .arrived) (b .market .items) (cells (l .prices)) (cells (l .gains))) = cc in
+    let same = sym e ∙ accepted-totals b l 0 1 a in
+    let w : weight ≡ weightOf (b .market .arrived) (live b) (cells (l .plan)) = ap (λ (t : Totals). t .weight) same in
+    let s : sum′ ≡ total (b .market .arrived) (b .market .items) (cells (l .prices)) (cells (l .gains)) = ap (λ (t : Totals). t .total) same in
     let x = total-lists (b .market .arrived) (b .market .items) (l .prices) (l .gains) (a .even .prices) (a .even .gains) in
     let best = best-on b (a .sound) (l .plan) (l .prices) (l .gains) (a .even .plan) (a .even .prices) (a .even .gains) (a .matches) (a .covers) in
-    (λ h. best .0 (sym (ap (λ p. p .0) w) ∙ h ∙ ap (λ p. p .0) s ∙ x), λ h. ap (λ p. p .0) w ∙ best .1 h ∙ sym x ∙ sym (ap (λ p. p .0) s))
+    (λ h. best .0 (sym w ∙ h ∙ s ∙ x), λ h. w ∙ best .1 h ∙ sym x ∙ sym s)
 
 pub read-out-accepted : ReadOutAccepted
 read-out-accepted b e n l t room =
@@ -104,7 +100,7 @@ read-out-accepted b e n l t room =
       gains = λ i h. omega (arith, gains i h, m .gains i);
       covers = covers-as _ _ (live b) (b .market .slack .q - b .market .slack .p) (priceAt b) _ (gainAt b) _ prices gains (s .covers);
     })
-    ∙ totals _ _ _ _ (weight-as _ (live b) (matchingOf b) _ plan)
+    ∙ ap₂ totals (weight-as _ (live b) (matchingOf b) _ plan)
     (total-as _ _ (cells (after .prices)) _ (cells (after .gains)) _ (λ k h. cut-cell (b .market .items) (after .prices) k h) (λ i h. cut-cell (b .market .arrived) (after .gains) i h)
     ∙ reads .sum ∙ ap (λ x. (b .market .slack .q + b .market .slack .p) * x) (weight-as _ (live b) (matchingOf b) _ (λ i h. reads .plan i h)))
   where
@@ -118,7 +114,9 @@ read-out-accepted b e n l t room =
     after = readOutOf b l .lists
 
     reads : Reads b l (readOutOf b l .lists)
-    reads = read-out-demand-2 b l (ap (λ o. o .answer) (read-out-written b l (sym (lent-served b _ _ _ (sound-decides b .complete s) (roomy-decides b l .complete room)))))
+    reads =
+        let o = read-out-written b l (sym (lent-served b _ _ _ (sound-decides b .complete s) (roomy-decides b l .complete room))) in
+        read-out-demand-2 b l after (record { lists = refl; tells = ap (λ (o : ReadOutcome). readOutTold (o .answer)) o })
 
     plan : (i : ℕ) → i < b .market .arrived → cells (take (b .market .arrived) (after .plan)) i ≡ matchingOf b i
     plan i h = cut-cell (b .market .arrived) (after .plan) i h ∙ reads .plan i h

@@ -1,12 +1,19 @@
 -- The page, by citing the crates below.
 use Rattle.refusals.proofs.Verdicts.{codes-apart}
-use Rattle.auction.proofs.Demand1.{open-demand-1, arrive-demand-1, withdraw-demand-1, read-out-demand-1}
+use Rattle.refusals.proofs.Answers.{told-apart}
+use Rattle.board.proofs.SoundLaw.{sound-decides}
+use Rattle.bidding.proofs.Choices.{chosen-once}
+use Rattle.bidding.proofs.Chains.{chain-once}
+use Rattle.auction.proofs.Demand1.{open-demand-1, arrive-demand-1, withdraw-demand-1, read-out-demand-1, call-orders}
 use Rattle.auction.proofs.Demand2.{arrive-ends, withdraw-ends, arrive-demand-2, withdraw-demand-2, sound-demand-2}
 use Rattle.auction.proofs.ReadOuts.{read-out-demand-2}
 use Rattle.auction.proofs.Histories.{history-demand-2}
-use Rattle.replay.proofs.ReplayLaws.{replay-ends, replay-reached}
-use Rattle.hungarian.proofs.Exacts.{best-on, exact-is-best, exact-demand-1}
-use Rattle.certificate.proofs.Demand1.{check-demand-1}
+use Rattle.replay.proofs.Saying.{line-said, says-once, line-malformed}
+use Rattle.replay.proofs.ReplayLaws.{replay-ends, texts-demand-1, lines-reached, replay-reached, refused-before}
+use Rattle.hungarian.proofs.Exacts.{best-on, exact-is-best, exact-keeps, exact-gives-demand-3, exact-demand-1}
+use Rattle.certificate.proofs.Demand1.{check-demand-1, check-order}
+use Rattle.history.proofs.Demand1.{plans-demand-1, sheets-demand-1}
+use Rattle.history.proofs.Laws.{plan-ends, printed-figures}
 use Rattle.guarantees.specs.Guarantees.{TableFirst, QuickBids, EqualPairs, Guarantees}
 use Rattle.guarantees.proofs.Checks.{exact-accepted, equal-totals-best, read-out-accepted}
 
@@ -19,10 +26,20 @@ demand-1 =
       reads = read-out-demand-1;
       exact = exact-demand-1;
       checks = check-demand-1;
+      texts = texts-demand-1;
+      said = line-said;
+      said-once = says-once;
+      malformed = line-malformed;
+      plans = plans-demand-1;
+      sheets = sheets-demand-1;
+      orders = call-orders;
+      check-order = check-order;
       numbers = codes-apart;
+      told = told-apart;
       arrive-ends = arrive-ends;
       withdraw-ends = withdraw-ends;
       replay-ends = replay-ends;
+      plan-ends = plan-ends;
     }
 
 demand-2 : QuickBids
@@ -30,10 +47,16 @@ demand-2 =
     record {
       arrives = arrive-demand-2;
       withdraws = withdraw-demand-2;
+      chosen = chosen-once;
+      chain = chain-once;
       sound = sound-demand-2;
       reads = read-out-demand-2;
+      tested = sound-decides;
       histories = history-demand-2;
+      lines = lines-reached;
       texts = replay-reached;
+      before = refused-before;
+      printed = printed-figures;
       accepted = read-out-accepted;
     }
 
@@ -41,8 +64,9 @@ demand-3 : EqualPairs
 demand-3 =
     record {
       best = best-on;
-      exact = λ b before after answer o. o .demand3;
+      exact = exact-gives-demand-3;
       exact-best = exact-is-best;
+      kept = exact-keeps;
       accepted = exact-accepted;
       checked = equal-totals-best;
     }

@@ -12,7 +12,7 @@ use Rattle.duality.specs.Steps.{Open}
 use Rattle.board.specs.declared.record.Auction.{Auction}
 use Rattle.board.specs.declared.units.Scaled.{Scaled}
 use Rattle.board.specs.Limits.{maxItems, maxBidders, maxWeight, maxQ, maxPrice}
-use Rattle.board.specs.Cells.{scaled, scaledAt, priceAt, gainAt, rowAt}
+use Rattle.board.specs.Cells.{scaled, scaledAt, priceAt, gainAt, withdrawnAt, rowAt}
 use Rattle.board.specs.Live.{live}
 use Rattle.board.specs.Sound.{Sound}
 use Rattle.bidding.specs.Rule.{placedAt, bidden, displaced, Chain, stays, takes, displaces}
@@ -38,7 +38,7 @@ cond-below true x y l = omega arith
 cond-below false x y l = l
 
 pub live-light : (b : Auction) → Sound b → (i k : ℕ) → live b i k ≤ maxWeight
-live-light b s i k = cond-below (getD (b .market .withdrawn) k false) _ _ (by-cases (decLt k maxItems) near far)
+live-light b s i k = cond-below (withdrawnAt b k) _ _ (by-cases (decLt k maxItems) near far)
   where
     near : k < maxItems → getD (rowAt b i) k 0 ≤ maxWeight
     near lk =

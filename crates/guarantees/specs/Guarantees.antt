@@ -1,57 +1,92 @@
 -- The three demands, over what the calls mean. Each field is the sentence above it; the definitions that it names say the rest.
-use mathlib.Core.Path.{_≡_}
 use Rattle.board.specs.declared.record.Auction.{Auction}
 use Rattle.board.specs.Sound.{Sound}
-use Rattle.board.specs.Lent.{Lists}
+use Rattle.board.specs.SoundTest.{SoundTestDecides}
 use Rattle.refusals.specs.Codes.{CodesApart}
-use Rattle.auction.specs.Demand1.{OpenDemand1, ArriveDemand1, WithdrawDemand1, ReadOutDemand1}
+use Rattle.refusals.specs.Told.{ToldApart}
+use Rattle.bidding.specs.RuleLaws.{ChosenOnce, ChainOnce}
+use Rattle.auction.specs.Demand1.{OpenDemand1, ArriveDemand1, WithdrawDemand1, ReadOutDemand1, CallOrders}
 use Rattle.auction.specs.Demand2.{ArriveEnds, WithdrawEnds, ArriveDemand2, WithdrawDemand2, SoundDemand2, ReadOutDemand2}
 use Rattle.auction.specs.Histories.{HistoryDemand2}
-use Rattle.replay.specs.ReplayLaws.{ReplayEnds, ReplayReached}
-use Rattle.hungarian.specs.declared.exact.Greatest.{Greatest}
-use Rattle.hungarian.specs.Demand3.{Demand3, EqualExactlyWhenBestOn, ExactOutcome, ExactDemand1, ExactIsBest}
-use Rattle.certificate.specs.Demand1.{CheckDemand1}
+use Rattle.replay.specs.Says.{SaysOnce, LineSaid, LineMalformed}
+use Rattle.replay.specs.TextDemand1.{TextsDemand1}
+use Rattle.replay.specs.ReplayLaws.{ReplayEnds, LinesReached, ReplayReached, RefusedBefore}
+use Rattle.hungarian.specs.Demand3.{EqualExactlyWhenBestOn, ExactGivesDemand3, ExactDemand1, ExactIsBest, ExactKeeps}
+use Rattle.certificate.specs.Demand1.{CheckDemand1, CheckOrder}
+use Rattle.history.specs.Demand1.{PlansDemand1, SheetsDemand1}
+use Rattle.history.specs.Laws.{PlanEnds, PrintedFigures}
 use Rattle.guarantees.specs.Checks.{ExactAccepted, EqualTotalsBest, ReadOutAccepted}
 
 -- Demand 1
 pub record TableFirst : Type 0 where
-  -- "Each call refuses by the table, in its order, and then every byte it was lent is as before; otherwise it serves"
+  -- "If a call meets a condition in the table of refusals, it gives that number by the stated order of checks, and the board and each lent list stay byte
+  -- for byte as they were; otherwise it is served."
   pub opens : OpenDemand1
   pub arrives : ArriveDemand1
   pub withdraws : WithdrawDemand1
   pub reads : ReadOutDemand1
   pub exact : ExactDemand1
   pub checks : CheckDemand1
-  -- "A refusal returns number and place": no two refusals have both in common, so that they name one row
+  -- The same of a text: "each line is tested and carried out before the next"; what a line says is said apart from any reader
+  pub texts : TextsDemand1
+  pub said : LineSaid
+  pub said-once : SaysOnce
+  pub malformed : LineMalformed
+  pub plans : PlansDemand1
+  pub sheets : SheetsDemand1
+  -- "by the stated order of checks": the order of each call's checks, in numbers and places
+  pub orders : CallOrders
+  pub check-order : CheckOrder
+  -- "A refusal returns number and place": no two refusals have both in common, so that they name one row; and what is told names one answer
   pub numbers : CodesApart
-  -- "Every call ends"
+  pub told : ToldApart
+  -- "Every call ends."
   pub arrive-ends : ArriveEnds
   pub withdraw-ends : WithdrawEnds
   pub replay-ends : ReplayEnds
+  pub plan-ends : PlanEnds
 
 -- Demand 2
 pub record QuickBids : Type 0 where
-  -- "exactly the bids of the rule, the plan, prices and gains they give, their number returned"; and the board after is sound
+  -- "On the quick level each accepted call makes the bids of the paper's rule, no more and no fewer, and leaves the plan, prices and gains they give."
+  -- And the list becomes the bidder's entries, the others' are as before, and the board after is sound
   pub arrives : ArriveDemand2
   pub withdraws : WithdrawDemand2
-  -- "Prices plus gains = (q + p) × worth; worth × (q + p) ≥ (q - p) × any plan's worth", on every sound board, and of the lists that are read out;
-  -- and "I hold the dearest unplaced batch against each free kettle", so after every accepted arrival and withdrawal
+  -- "no more and no fewer": there is one chosen edge, and one chain
+  pub chosen : ChosenOnce
+  pub chain : ChainOnce
+  -- "Prices plus gains total q + p times the plan's worth, and worth times q + p is at least q - p times the worth of every plan on the live sheet", on
+  -- every sound board, and of the lists that are read out; and "I hold the dearest unplaced batch against each free kettle", so after every accepted
+  -- arrival and withdrawal
   pub sound : SoundDemand2
   pub reads : ReadOutDemand2
-  -- "Bids over a history ≤ entries ever accepted × ⌊(q - 1)/p⌋"; and a text's lines are such a history
+  -- "the board handed in is not sound": the test decides it
+  pub tested : SoundTestDecides
+  -- "Over every history from opening, the bids number at most the entries ever accepted times the whole part of (q - 1)/p"; and a text's lines are such a
+  -- history, call by call, with the text's own entries; one that is refused leaves the board of the lines before
   pub histories : HistoryDemand2
+  pub lines : LinesReached
   pub texts : ReplayReached
+  pub before : RefusedBefore
+  -- So the printed figures hold
+  pub printed : PrintedFigures
   -- The check accepts what is read out
   pub accepted : ReadOutAccepted
 
 -- Demand 3
 pub record EqualPairs : Type 0 where
-  -- "For any sound board, any plan on its live sheet, any covering whole-penny list: totals are equal exactly when neither can be bettered"
+  -- "Take any sound board, any plan on its live sheet and any list of whole-penny prices and gains that covers that sheet, whoever made them. The plan's
+  -- worth equals the list's sum exactly when every other plan on that sheet is worth at most as much and every other covering list sums to at least as
+  -- much."
   pub best : (b : Auction) → Sound b → EqualExactlyWhenBestOn b
-  -- "and the exact level leaves such an equal pair and returns its total": both halves in one piece, of every outcome of the call
-  pub exact : (b : Auction) (before after : Lists) (answer : Greatest) → ExactOutcome b before answer after → Demand3 b before answer after
+  -- "For every sound board, given lists long enough, the exact level leaves, in the lists it was lent, a plan on the live sheet and a covering list whose
+  -- two totals are equal, and returns that total." Both halves in one piece, of every outcome of the call
+  pub exact : ExactGivesDemand3
+  -- "The exact level gives a plan of greatest worth"
   pub exact-best : ExactIsBest
-  -- The check sees it, and sees it of anyone's lists
+  -- "Further cells keep what they held"
+  pub kept : ExactKeeps
+  -- The check sees it, and sees it of anyone's lists: "This must hold for plans that we didn't make"
   pub accepted : ExactAccepted
   pub checked : EqualTotalsBest
 

@@ -15,8 +15,8 @@ use Rattle.board.specs.declared.units.Pence.{Pence}
 use Rattle.board.specs.declared.lent.Columns.{Columns}
 use Rattle.refusals.specs.declared.Refusal.{Refusal}
 use Rattle.hungarian.specs.declared.exact.Greatest.{Greatest}
-use Rattle.hungarian.specs.Exact.{greatestOn}
-use Rattle.hungarian.specs.Demand3.{ExactOutcome}
+use Rattle.hungarian.specs.Exact.{greatestOn, ExactOutcome}
+use Rattle.hungarian.proofs.Exacts.{exact-is-best, exact-gives-demand-3, exact-told-weight}
 use Rattle.board.specs.Limits.{maxItems, maxBidders, maxQ, maxWeight}
 use Rattle.board.specs.Cells.{pence, rowAt, priceAt, gainAt, flagAt, withdrawnAt}
 use Rattle.board.specs.Live.{live, matchingOf, matchingWeight}
@@ -91,11 +91,9 @@ module _ (b : Auction) (s : Sound b) where
   module _ (after : Lists) (a : Greatest) (o : ExactOutcome b (lists (replicate maxBidders 0) (replicate maxItems 0) (replicate maxBidders 0)) a after) where
     exact-answer : a ≡ Greatest.Weight (pence (greatestOn b))
     exact-answer =
-        o .demand3 .exact s (record {
-          plan = rw length-replicate (s .arrived);
-          prices = rw length-replicate (s .items .1);
-          gains = rw length-replicate (s .arrived);
-        }) .answers
+        let shown = exact-gives-demand-3 b _ after a o .exact s
+        (record { plan = rw length-replicate (s .arrived); prices = rw length-replicate (s .items .1); gains = rw length-replicate (s .arrived) }) in
+        exact-told-weight a _ (exact-is-best b _ after a shown .answers)
 
     pub exact-weight : (w : Pence) → a ≡ Greatest.Weight w → w .0 ≡ greatestOn b
     exact-weight w e =

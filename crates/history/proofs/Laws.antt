@@ -19,14 +19,14 @@ use Rattle.board.specs.Sound.{Sound}
 use Rattle.auction.proofs.Demand2.{sound-demand-2}
 use Rattle.auction.proofs.Histories.{history-demand-2}
 use Rattle.replay.proofs.ReplayLines.{bids-fit}
-use Rattle.replay.proofs.ReplayLaws.{replay-ends, replay-reached}
+use Rattle.replay.proofs.ReplayLaws.{replay-ends}
 use Rattle.hungarian.specs.Exact.{greatestOn}
 use Rattle.history.specs.Limits.{maxOutput}
 use Rattle.history.specs.Output.{bidderLines, itemLine, itemLines, sumOf, outputOf}
 use Rattle.history.specs.Plan.{planFrom, planOf}
 use Rattle.history.specs.Laws.{PlanEnds, OutputFits, AcceptedIsWritten, PrintedFigures}
 use Rattle.history.proofs.Boards.{weight-most, weight-any, sum-is, sum-most-is}
-use Rattle.history.proofs.Plans.{fit-written, plan-finished}
+use Rattle.history.proofs.Plans.{fit-written, text-reached, plan-finished}
 
 pub plan-ends : PlanEnds
 unfolding planOf planFrom
@@ -93,8 +93,8 @@ output-length b bids s w =
 
 pub output-fits : OutputFits
 output-fits s r (e, f) =
-    let h = replay-reached s r e f in
-    output-length (r .auction) (r .bids) (history-demand-2 (r .auction) (h .0) (r .bids) (h .1) .sound) (omega (arith, bids-fit h))
+    let h = text-reached s r e f in
+    output-length (r .auction) (r .bids) (history-demand-2 (r .auction) (h .entries) (r .bids) (h .reached) .sound) (omega (arith, bids-fit (h .entries, h .reached)))
 
 pub accepted-is-written : AcceptedIsWritten
 accepted-is-written s out r (e, f) l =
@@ -104,9 +104,9 @@ accepted-is-written s out r (e, f) l =
 
 pub printed-figures : PrintedFigures
 printed-figures s r (e, f) =
-    let h = replay-reached s r e f in
+    let h = text-reached s r e f in
     let b = r .auction in
-    let d = history-demand-2 b (h .0) (r .bids) (h .1) in
+    let d = history-demand-2 b (h .entries) (r .bids) (h .reached) in
     let g = greatest-weight (b .market .arrived) (b .market .items) (live b) .attained in
     let slack = b .market .slack in
     record {
@@ -116,7 +116,6 @@ printed-figures s r (e, f) =
           (λ (x : ℕ). (slack .q - slack .p) * x ≤ (slack .q + slack .p) * matchingWeight b)
           (g .2)
           (sound-demand-2 b (d .sound) .share (g .0) (g .1));
-      edges = h .0;
-      reached = h .1;
+      text = h;
       few = d .bids;
     }

@@ -2,5 +2,6 @@
 pub mod Outputs
 pub mod Boards
 pub mod Plans
+pub mod Demand1
 pub mod Laws
 pub mod Sheets

@@ -15,6 +15,8 @@ use Rattle.bidding.specs.Rule.{done}
 use Rattle.board.specs.Sound.{Sound}
 use Rattle.replay.specs.Replay.{replayOf}
 use Rattle.auction.proofs.Histories.{history-demand-2}
+use Rattle.replay.specs.ReplayLaws.{TextReached}
+use Rattle.replay.specs.TextDemand1.{endingTold}
 use Rattle.replay.proofs.ReplayLaws.{replay-reached}
 use Rattle.history.specs.declared.planning.Planned.{Planned}
 use Rattle.history.specs.Limits.{maxOutput}
@@ -51,6 +53,10 @@ page-put {bytes = bytes} {n = n} out new a p room e =
 
 -- ---- A text
 
+-- A finished text is a history
+pub text-reached : (s : List ℕ) (r : Replayed) → replayOf s ≡ done r → r .answer ≡ Ending.Finished → TextReached s (r .auction) (r .bids)
+text-reached s r e f = replay-reached s (r .auction) (r .bids) (record { answer = r .answer; bids = r .bids; outcome = e; tells = ap (λ (x : Ending). endingTold x (r .bids)) f })
+
 module _ (s out : List ℕ) (r : Replayed) (e : done r ≡ replayOf s) where
   pub plan-stopped : (q : Refusal) (n : ℕ) → r .answer ≡ Ending.Stopped q n → done (planned (Planned.Refused q n) out) ≡ planOf s out
   unfolding planOf planFrom endedBy
@@ -62,7 +68,7 @@ module _ (s out : List ℕ) (r : Replayed) (e : done r ≡ replayOf s) where
 
   -- a text that is finished leaves a sound board
   pub finished-sound : r .answer ≡ Ending.Finished → Sound (r .auction)
-  finished-sound f = let h = replay-reached s r (sym e) f in history-demand-2 (r .auction) (h .0) (r .bids) (h .1) .sound
+  finished-sound f = let h = text-reached s r (sym e) f in history-demand-2 (r .auction) (h .entries) (r .bids) (h .reached) .sound
 
 -- ---- What the program prints
 

@@ -9,8 +9,8 @@ use Rattle.board.specs.Live.{matchingWeight}
 use Rattle.replay.specs.declared.Ending.{Ending}
 use Rattle.replay.specs.declared.Replayed.{Replayed}
 use Rattle.bidding.specs.Rule.{done}
-use Rattle.auction.specs.Histories.{Reached}
 use Rattle.replay.specs.Replay.{replayOf}
+use Rattle.replay.specs.ReplayLaws.{TextReached}
 use Rattle.hungarian.specs.Exact.{greatestOn}
 use Rattle.history.specs.declared.planning.Planned.{Planned}
 use Rattle.history.specs.Limits.{maxOutput}
@@ -35,16 +35,15 @@ AcceptedIsWritten =
     (s out : List ℕ) (r : Replayed) → TextAccepted s r → maxOutput ≤ length out →
     planOf s out ≡ done (planned (Planned.Written (length (outputOf (r .auction) (r .bids)))) (outputOf (r .auction) (r .bids) ++ drop (length (outputOf (r .auction) (r .bids))) out))
 
--- The printed figures of a board that a history of so many bids reaches
-pub record FiguresHold (b : Auction) (bids : ℕ) : Type 0 where
-  -- "Prices plus gains = (q + p) × worth"
+-- The printed figures of a text: of the board that its lines reach, and of the bids in all
+pub record FiguresHold (s : List ℕ) (b : Auction) (bids : ℕ) : Type 0 where
+  -- "Prices plus gains total q + p times the plan's worth"
   pub sum : sumOf b ≡ (b .market .slack .q + b .market .slack .p) * matchingWeight b
-  -- "worth × (q + p) ≥ (q - p) × any plan's worth", so of the greatest
+  -- "worth times q + p is at least q - p times the worth of every plan on the live sheet", so of the greatest
   pub share : (b .market .slack .q - b .market .slack .p) * greatestOn b ≤ (b .market .slack .q + b .market .slack .p) * matchingWeight b
-  -- "the bids number at most the entries ever accepted times the whole part of (q - 1)/p"
-  pub edges : ℕ
-  pub reached : Reached b edges bids
-  pub few : bids ≤ edges * most (b .market .slack .p) (b .market .slack .q)
+  -- "the bids number at most the entries ever accepted times the whole part of (q - 1)/p": the entries are the text's own
+  pub text : TextReached s b bids
+  pub few : bids ≤ text .entries * most (b .market .slack .p) (b .market .slack .q)
 
 abbrev pub PrintedFigures : Type 0
-PrintedFigures = (s : List ℕ) (r : Replayed) → TextAccepted s r → FiguresHold (r .auction) (r .bids)
+PrintedFigures = (s : List ℕ) (r : Replayed) → TextAccepted s r → FiguresHold s (r .auction) (r .bids)

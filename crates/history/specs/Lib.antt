@@ -1,3 +1,4 @@
+pub mod Demand1
 pub mod Laws
 pub mod Limits
 pub mod Output

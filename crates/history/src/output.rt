@@ -47,7 +47,7 @@ fn put_item(out: &mut [u8], at: usize, withdrawn: bool, number: u64, price: u64)
 fn put_items(
     out: &mut [u8],
     at: usize,
-    withdrawn: [bool; Auction::MAX_ITEMS],
+    withdrawn: [u8; Auction::MAX_ITEMS],
     prices: &[u64; Auction::MAX_BIDDERS],
     count: usize,
 ) -> usize
@@ -57,7 +57,7 @@ fn put_items(
     let mut next = at;
     let mut k: usize = 0;
     while k < count {
-        next = put_item(out, next, withdrawn[k], k as u64 + 1, prices[k]);
+        next = put_item(out, next, withdrawn[k] != 0, k as u64 + 1, prices[k]);
         k += 1;
     }
     next

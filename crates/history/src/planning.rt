@@ -20,7 +20,7 @@ ghost use Rattle.bidding.specs.Rule.{done};
 ghost use Rattle.board.specs.Sound.{Sound};
 ghost use Rattle.history.specs.Limits.{maxOutput};
 ghost use Rattle.history.specs.Output.{outputOf, refusalLine};
-ghost use Rattle.history.specs.Plan.{planned, fitted, planOf, SheetWritten};
+ghost use Rattle.history.specs.Plan.{planned, fitted, planOf, sheetOf, SheetWritten};
 
 // What a text is answered: the bytes that were written, or a refusal and its line.
 pub enum Planned {
@@ -120,4 +120,13 @@ pub fn sheet_text(text: &[u8], out: &mut [u8; MAX_OUTPUT]) -> usize
         Planned::Written(n) => n as usize,
         Planned::Refused(refusal, line) => put_refusal(refusal.number(), line, out),
     }
+}
+
+// The same where there is room for all of it, in a list of any length.
+pub fn print_text(text: &[u8], out: &mut [u8]) -> Planned
+    ensures { λ r. ⌜ planned r (now (out .exit)) ≡ fitted (sheetOf (now (text .entry))) (now (out .entry)) ⌝ }
+{
+    let mut page = [0u8; MAX_OUTPUT];
+    let bytes = sheet_text(text, &mut page);
+    fit(&page, bytes, out)
 }

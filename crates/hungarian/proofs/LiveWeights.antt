@@ -10,7 +10,7 @@ use lib.ListN.{length, length-set, getD, set, List·getD-eq-default}
 use lib.Seq.{getD-set-same, getD-set-other}
 use Rattle.board.specs.declared.record.Auction.{Auction}
 use Rattle.board.specs.Limits.{maxItems, maxBidders, maxWeight}
-use Rattle.board.specs.Cells.{rowAt}
+use Rattle.board.specs.Cells.{flagAt, withdrawnAt, rowAt}
 use Rattle.board.specs.Live.{live}
 use Rattle.board.specs.Sound.{Sound}
 use Rattle.board.proofs.Filed.{row-cell}
@@ -58,11 +58,11 @@ clear-all item i before after l u p = let e : maxBidders ≡ i = omega arith in 
 
 -- ---- Item by item
 
-pub live-none : (w : List ℕ) (withdrawn : List Bool) → LiveTo 0 w withdrawn w
+pub live-none : (w : List ℕ) (withdrawn : List ℕ) → LiveTo 0 w withdrawn w
 live-none w withdrawn = record { size = refl; live = λ i k li lk. absurd (omega arith); later = λ i k l u. refl }
 
-module _ {k : ℕ} {w after : List ℕ} {withdrawn : List Bool} (near : k < maxItems) (p : LiveTo k w withdrawn after) where
-  pub live-kept : getD withdrawn k false ≡ false → LiveTo (k + 1) w withdrawn after
+module _ {k : ℕ} {w after : List ℕ} {withdrawn : List ℕ} (near : k < maxItems) (p : LiveTo k w withdrawn after) where
+  pub live-kept : flagAt withdrawn k ≡ false → LiveTo (k + 1) w withdrawn after
   live-kept stays =
       record {
         size = p .size;
@@ -72,7 +72,7 @@ module _ {k : ℕ} {w after : List ℕ} {withdrawn : List Bool} (near : k < maxI
         later = λ i j l u. p .later i j (omega arith) u;
       }
 
-  pub live-cleared : (cleared : List ℕ) → getD withdrawn k false ≡ true → Cleared k maxBidders after cleared → LiveTo (k + 1) w withdrawn cleared
+  pub live-cleared : (cleared : List ℕ) → flagAt withdrawn k ≡ true → Cleared k maxBidders after cleared → LiveTo (k + 1) w withdrawn cleared
   live-cleared cleared gone q =
       record {
         size = q .size ∙ p .size;
@@ -82,7 +82,7 @@ module _ {k : ℕ} {w after : List ℕ} {withdrawn : List Bool} (near : k < maxI
         later = λ i j l u. q .others i j u (λ e. absurd (omega (arith, e))) ∙ p .later i j (omega arith) u;
       }
 
-pub live-all : (k : ℕ) (w after : List ℕ) (withdrawn : List Bool) → k ≤ maxItems → maxItems ≤ k → LiveTo k w withdrawn after → LiveTo maxItems w withdrawn after
+pub live-all : (k : ℕ) (w after : List ℕ) (withdrawn : List ℕ) → k ≤ maxItems → maxItems ≤ k → LiveTo k w withdrawn after → LiveTo maxItems w withdrawn after
 live-all k w after withdrawn l u p = let e : maxItems ≡ k = omega arith in rw e p
 
 -- ---- On a sound board
@@ -97,7 +97,7 @@ cond-none false x e = e
 
 module _ (b : Auction) (s : Sound b) (after : List ℕ) (p : LiveTo maxItems (b .weights) (b .market .withdrawn) after) where
   pub live-is : (i k : ℕ) → i < maxBidders → k < maxItems → matrixAt after i k ≡ live b i k
-  live-is i k li lk = p .live i k li lk ∙ ap (cond (getD (b .market .withdrawn) k false) 0) (sym (row-cell (b .weights) i k lk))
+  live-is i k li lk = p .live i k li lk ∙ ap (cond (withdrawnAt b k) 0) (sym (row-cell (b .weights) i k lk))
 
   edge-light : (i k : ℕ) → i < maxBidders → k < maxItems → getD (rowAt b i) k 0 ≤ maxWeight
   edge-light i k li lk =
@@ -115,11 +115,11 @@ module _ (b : Auction) (s : Sound b) (after : List ℕ) (p : LiveTo maxItems (b 
           let h = cell-of c in
           let li : h .bidder < maxBidders = omega (arith, h .here, h .near) in
           let a = live-is (h .bidder) (h .item) li (h .near) in
-          let d : live b (h .bidder) (h .item) ≤ maxWeight = cond-below (getD (b .market .withdrawn) (h .item) false) _ _ (edge-light (h .bidder) (h .item) li (h .near)) in
+          let d : live b (h .bidder) (h .item) ≤ maxWeight = cond-below (withdrawnAt b (h .item)) _ _ (edge-light (h .bidder) (h .item) li (h .near)) in
           rw (h .here, a) d
 
       outside : (c < maxBidders * maxItems → ⊥) → getD after c 0 ≤ maxWeight
       outside f = omega (arith, List·getD-eq-default after 0 {n = c} (omega (arith, p .size, s .formed .rows)))
 
   pub live-unused : (i k : ℕ) → i < b .market .arrived → b .market .items ≤ k → k < maxItems → live b i k ≡ 0
-  live-unused i k li u lk = cond-none (getD (b .market .withdrawn) k false) _ (s .unused .weight i k li u lk)
+  live-unused i k li u lk = cond-none (withdrawnAt b k) _ (s .unused .weight i k li u lk)

@@ -1,13 +1,17 @@
--- The exact call: its whole outcome, on all inputs. Which of several best matchings and covers comes out is free.
+-- The exact call: its whole outcome, on all inputs. "Which of several best plans or lists comes out is free."
 use mathlib.Core.Path.{_≡_}
 use mathlib.Core.Bool.{true}
 use mathlib.Core.List.{List}
 use Prim.Native.Nat.{ℕ, _≤_, _<_}
 use lib.ListN.{length}
 use Rattle.duality.specs.Lists.{cells}
+use Rattle.duality.specs.Matching.{IsMatching, weightOf}
+use Rattle.duality.specs.Cover.{Covers, total}
 use Rattle.duality.specs.Greatest.{greatestWeight}
-use Rattle.duality.specs.StrongDuality.{Equal}
 use Rattle.board.specs.declared.record.Auction.{Auction}
+use Rattle.refusals.specs.declared.Refusal.{Refusal}
+use Rattle.refusals.specs.declared.Told.{Told}
+use Rattle.refusals.specs.Told.{served, refused}
 use Rattle.refusals.specs.declared.Verdict.{Verdict}
 use Rattle.board.specs.Cells.{pence, withdrawnAt}
 use Rattle.board.specs.Live.{live}
@@ -31,16 +35,36 @@ exactBy b (Verdict.Refused r) = Greatest.Refused r
 unfoldable pub exactOf : Auction → Lists → Greatest
 exactOf b l = exactBy b (firstOf (exactChecks b l))
 
--- "in three lists as at read-out": a list keeps its length, and its cells from n on
+-- What is told: "and returns that worth"
+abbrev pub exactTold : Greatest → Told
+exactTold (Greatest.Weight w) = served (w .0)
+exactTold (Greatest.Refused r) = refused r
+
+-- "Further cells keep what they held": a list keeps its length, and its cells from n on
 pub record KeptFrom (n : ℕ) (before after : List ℕ) : Type 0 where
   pub size : length after ≡ length before
   pub further : (i : ℕ) → n ≤ i → cells after i ≡ cells before i
 
--- "a plan of greatest worth and whole-penny prices and gains that cover the live sheet, sums equal, withdrawn kettles at 0"
+-- "the exact level leaves, in the lists it was lent, a plan on the live sheet and a covering list whose two totals are equal, and returns that total"
 pub record Shows (b : Auction) (before : Lists) (answer : Greatest) (after : Lists) : Type 0 where
-  pub answers : answer ≡ Greatest.Weight (pence (greatestOn b))
-  pub equal : Equal (b .market .arrived) (b .market .items) (live b) (cells (after .plan)) (cells (after .prices)) (cells (after .gains))
+  -- "a plan on the live sheet"
+  pub matches : IsMatching (b .market .arrived) (b .market .items) (live b) (cells (after .plan))
+  -- "a covering list": "with gain plus price at least the worth on every live entry"
+  pub covers : Covers (b .market .arrived) (b .market .items) (live b) 1 (cells (after .prices)) (cells (after .gains))
+  -- "Its worth is the sum of the entries used": the answer is the weight of the plan that is left
+  pub weighs : exactTold answer ≡ served (weightOf (b .market .arrived) (live b) (cells (after .plan)))
+  -- "The sum of a list is all its prices and all its gains added": the answer is the sum of the lists that are left
+  pub totals : exactTold answer ≡ served (total (b .market .arrived) (b .market .items) (cells (after .prices)) (cells (after .gains)))
+  -- "withdrawn kettles at 0"
   pub withdrawn : (k : ℕ) → k < b .market .items → withdrawnAt b k ≡ true → cells (after .prices) k ≡ 0
+  -- "in three lists as at read-out": "a cell per batch, per kettle, per batch. Further cells keep what they held."
   pub plan : KeptFrom (b .market .arrived) (before .plan) (after .plan)
   pub prices : KeptFrom (b .market .items) (before .prices) (after .prices)
   pub gains : KeptFrom (b .market .arrived) (before .gains) (after .gains)
+
+-- What the call does: its answer; refused, it leaves the lists as they were; served, they show the answer
+pub record ExactOutcome (b : Auction) (before : Lists) (answer : Greatest) (after : Lists) : Type 0 where
+  pub answers : answer ≡ exactOf b before
+  -- "each lent list stay byte for byte as they were"
+  pub refused : (r : Refusal) → exactTold answer ≡ refused r → after ≡ before
+  pub served : (w : ℕ) → exactTold answer ≡ served w → Shows b before answer after

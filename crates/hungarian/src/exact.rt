@@ -8,7 +8,7 @@ use board::units::Pence;
 use refusals::Refusal;
 use refusals::Verdict;
 ghost use Rattle.board.specs.Lent.{lists};
-ghost use Rattle.hungarian.specs.Demand3.{ExactOutcome};
+ghost use Rattle.hungarian.specs.Exact.{ExactOutcome};
 
 // What the exact call answers: the greatest weight of a matching on the live edges, or a refusal.
 pub enum Greatest {

@@ -1,4 +1,4 @@
-// The limits of the solver are the board's.
+// The board's limits, as the solver takes them, and the one number that is its own, UNREACHED.
 use board::record::Auction;
 
 pub(crate) const ITEMS: usize = Auction::MAX_ITEMS;

@@ -21,13 +21,13 @@ fn clear_item(weights: &mut [u32; WEIGHTS], item: usize)
 }
 
 // The weights of the live edges: at withdrawn items there are none.
-pub(crate) fn live_weights(weights: [u32; WEIGHTS], withdrawn: [bool; ITEMS]) -> [u32; WEIGHTS]
+pub(crate) fn live_weights(weights: [u32; WEIGHTS], withdrawn: [u8; ITEMS]) -> [u32; WEIGHTS]
     ensures { λ r. ⌜ LiveTo maxItems weights withdrawn r ⌝ }
 {
     let mut live = weights;
     let mut k: usize = 0;
     while k < ITEMS {
-        if withdrawn[k] {
+        if withdrawn[k] != 0 {
             clear_item(&mut live, k);
         }
         k += 1;

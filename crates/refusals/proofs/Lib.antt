@@ -1,2 +1,3 @@
 -- Proofs of the statements in specs/, and the laws that the functions' proofs cite.
 pub mod Verdicts
+pub mod Answers

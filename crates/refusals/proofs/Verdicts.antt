@@ -117,6 +117,21 @@ demand-1 {Met} ds refused served =
       );
     }
 
+-- The same answers in other words
+pub demand-1-as : {Met : Refusal → Type 0} {checks : List Check} {A B : Refusal → Type 0} {S T : Type 0} →
+    Demand1 Met checks A S → ((r : Refusal) → A r ↔ B r) → S ↔ T → Demand1 Met checks B T
+demand-1-as d answers served =
+    record {
+      refuses = λ r a. d .refuses r (answers r .1 a);
+      refused-by = λ r l. answers r .0 (d .refused-by r l);
+      serves = λ s. d .serves (served .1 s);
+      served-by = λ u. served .0 (d .served-by u);
+      numbered = λ c. (
+        λ a. record { refusal = a .refusal; coded = a .coded; holds = d .refuses (a .refusal) (answers (a .refusal) .1 (a .holds)) },
+        λ a. record { refusal = a .refusal; coded = a .coded; holds = answers (a .refusal) .0 (d .refused-by (a .refusal) (a .holds)) },
+      );
+    }
+
 -- A list of checks in two parts
 pub first-on : (checks rest : List Check) → firstOf checks ≡ Served → firstOf (checks ++ rest) ≡ firstOf rest
 unfolding firstOf

@@ -1,12 +1,12 @@
 -- A call's checks in order, and demand 1 of any call.
 use mathlib.Core.Path.{_≡_}
 use mathlib.Core.Bool.{Bool, cond}
-use mathlib.Core.List.{List, [], _∷_, _++_}
+use mathlib.Core.List.{List, [], _∷_, _++_, map}
 use mathlib.Core.Logic.{_↔_}
 use Rattle.refusals.specs.declared.Refusal.{Refusal}
 use Rattle.refusals.specs.declared.Verdict.{Verdict}
 use Rattle.refusals.specs.declared.Verdict.the-variants.{Served, Refused}
-use Rattle.refusals.specs.Codes.{Code, Coded}
+use Rattle.refusals.specs.Codes.{Code, codeOf, Coded}
 
 -- A refusal with the test of whether it is met. A call's checks stand in the call's order
 pub record Check : Type 0 where
@@ -15,6 +15,10 @@ pub record Check : Type 0 where
 
 abbrev pub checkFor : Refusal → Bool → Check
 checkFor r t = record { refusal = r; test = t }
+
+-- Numbers and places of the checks, in their order
+abbrev pub codesOf : List Check → List Code
+codesOf checks = map (λ (c : Check). codeOf (c .refusal)) checks
 
 -- The verdict: the first refusal whose test is true
 unfoldable pub firstOf : List Check → Verdict
@@ -37,8 +41,8 @@ pub record Leads (Met : Refusal → Type 0) (checks : List Check) (r : Refusal) 
   pub met : Met r
   pub unmet : Unmet Met before
 
--- "Each call refuses by the table, in its order, and then every byte it was lent is as before; otherwise it serves". Answers r is that the call
--- answers refusal r and leaves all as it was; Serves is that it serves.
+-- "If a call meets a condition in the table of refusals, it gives that number by the stated order of checks, and the board and each lent list stay byte
+-- for byte as they were; otherwise it is served." Answers r is that the call answers refusal r and leaves all as it was; Serves is that it serves.
 pub record Demand1 (Met : Refusal → Type 0) (checks : List Check) (Answers : Refusal → Type 0) (Serves : Type 0) : Type 0 where
   pub refuses : (r : Refusal) → Answers r → Leads Met checks r
   pub refused-by : (r : Refusal) → Leads Met checks r → Answers r

@@ -27,6 +27,14 @@ pub enum Verdict {
     Refused(Refusal),
 }
 
+// A call's answer in numbers. Number 0 says that the call served, with a value where it has one. Any other number is the refusal's, with its place.
+#[repr(C)]
+pub struct Told {
+    pub number: u64,
+    pub place: u64,
+    pub value: u64,
+}
+
 impl Refusal {
     // Its number in the table.
     pub fn number(self) -> u64

@@ -45,11 +45,11 @@ module _ (l : Line) where
   unfolding commandOf
   says-opens e = rw e
 
-  says-arrives : isArrival l ≡ true → commandOf l ≡ arrives (edgesSaid l)
+  pub says-arrives : isArrival l ≡ true → commandOf l ≡ arrives (edgesSaid l)
   unfolding commandOf
   says-arrives e = let a = letter-is 65 (eqb (l .count % 2) 0) e in rw (ne-eqb (l .letter) 75 (λ q. omega arith), e)
 
-  says-withdraws : isWithdrawal l ≡ true → commandOf l ≡ withdraws (getD (l .numbers) 0 0)
+  pub says-withdraws : isWithdrawal l ≡ true → commandOf l ≡ withdraws (getD (l .numbers) 0 0)
   unfolding commandOf
   says-withdraws e =
       let a = letter-is 87 (eqb (l .count) 1) e in

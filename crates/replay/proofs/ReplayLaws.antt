@@ -1,124 +1,115 @@
--- Every text has an outcome, and a finished one is a history; a line's pairs are edges, all of them.
+-- Every text has an outcome, which is the one that its lines say; a finished one is a history.
 use mathlib.Core.Path.{_≡_, refl, sym, ap, subst, _∙_}
-use mathlib.Core.Bool.{Bool, true, false}
 use mathlib.Core.List.{List}
-use Prim.Native.Nat.{ℕ, zero, suc, _+_, _*_, _/_, _%_, _≤_, _<_, min}
-use native.Mathlib.Nat.{zero-add, zero-min}
+use Prim.Native.Nat.{ℕ, _<_}
 use native.Mathlib.Omega.{arith}
-use lib.ListN.{length, getD, take, replicate, length-append}
-use lib.Seq.{sets, take-nil, take-append-le, take-all}
-use lib.Dec.{leb, ltb}
-use borrow.Author.Tests.{leb-true, leb-false, ltb-true, ltb-false, eq-eqb}
-use Rattle.text.specs.Limits.{kept}
-use Rattle.text.specs.Line.{lineAt}
-use Rattle.text.proofs.Forms.{line-complete}
+use Rattle.refusals.specs.declared.Refusal.{Refusal}
+use Rattle.refusals.specs.declared.Told.{Told}
+use Rattle.refusals.specs.Codes.{codeOf}
+use Rattle.refusals.specs.Told.{told, served, refusedAt}
+use Rattle.refusals.proofs.Answers.{served-apart}
 use Rattle.board.specs.declared.record.Auction.{Auction}
-use Rattle.board.specs.declared.opening.Opened.{Opened}
+use Rattle.board.specs.declared.opening.Opening.{Opening}
+use Rattle.bidding.specs.Rule.{done}
+use Rattle.auction.specs.declared.arrive.Arrived.{Arrived}
+use Rattle.auction.specs.declared.withdraw.Withdrawn.{Withdrawn}
+use Rattle.auction.specs.Arrive.{arrival}
+use Rattle.auction.specs.Withdraw.{withdrawal}
+use Rattle.auction.specs.Histories.{Reached}
+use Rattle.auction.proofs.Told.{opened-ready, arrived-bids, withdrawn-bids}
 use Rattle.replay.specs.declared.Ending.{Ending}
 use Rattle.replay.specs.declared.Replayed.{Replayed}
-use Rattle.board.specs.Limits.{maxEdges, maxText}
-use Rattle.bidding.specs.Rule.{Outcome, done}
-use Rattle.board.specs.Opening.{openOf}
-use Rattle.auction.specs.Arrive.{arriveOf}
-use Rattle.replay.specs.Replay.{Command, opens, arrives, withdraws, malformed, pairsOf, commandOf, afterArrival, carryOut, linesFrom, afterOpened, firstLine, replayOf}
-use Rattle.replay.specs.ReplayLaws.{ReachedBy, ReplayEnds, ReplayReached, LineEdges}
-use Rattle.board.proofs.Filed.{sets-in}
-use Rattle.auction.proofs.EnoughEdges.{enough-edges}
-use Rattle.replay.proofs.ReplayForms.{isArrival, edgesSaid, carries-arrival}
-use Rattle.replay.proofs.ReplayLines.{Carried, goes, stops, carried, unfinished, line-on, after, lines-turn, lines-end, opening-reached}
-
--- An outcome that is a history where it is finished
-abbrev HasEnd : Outcome Replayed → Type 0
-HasEnd o = (r : Replayed) × (o ≡ done r) × (r .answer ≡ Ending.Finished → ReachedBy (r .auction) (r .bids))
-
--- The lines from a position on end, where fewer bytes are left than fuel
-abbrev EndsFrom : ℕ → List ℕ → ℕ → ℕ → Type 0
-EndsFrom fuel s at n = (b : Auction) (bids : ℕ) → at ≤ length s → length s < fuel + at → ReachedBy b bids → HasEnd (linesFrom fuel s at n b bids)
-
--- A line has a byte at least
-lines-ended : (fuel : ℕ) (s : List ℕ) (at n : ℕ) → EndsFrom fuel s at n
-lines-ended zero s at n b bids h f t = absurd (omega arith)
-lines-ended (suc fuel) s at n b bids h f t = go (ltb at (length s)) refl (lines-ended fuel s (lineAt s at .next) (n + 1))
-  where
-    by-line : {r : Replayed} → at < length s → Carried n b bids (commandOf (lineAt s at)) r → EndsFrom fuel s (lineAt s at .next) (n + 1) → HasEnd (linesFrom (suc fuel) s at n b bids)
-    by-line l (goes {c = c} {m = m} u v w) rest =
-        let o = line-on s at w in
-        rw (lines-turn s at n b bids fuel l, u (after s at n b bids fuel)) (rest c m (o .1) (omega arith) (v t))
-    by-line l (stops u) rest = (_, lines-turn s at n b bids fuel l ∙ u _, unfinished)
-
-    go : (x : Bool) → ltb at (length s) ≡ x → EndsFrom fuel s (lineAt s at .next) (n + 1) → HasEnd (linesFrom (suc fuel) s at n b bids)
-    go true q rest = by-line (ltb-true at (length s) q) (carried n b bids (commandOf (lineAt s at)) .1) rest
-    go false q rest = (_, lines-end s at n b bids fuel (ltb-false at (length s) q), λ e. t)
-
-opened-ended : (s : List ℕ) (at items p q : ℕ) → at ≤ length s → (a : Opened) → openOf items p q .answer ≡ a → HasEnd (afterOpened s at (openOf items p q .auction) a)
-unfolding afterOpened
-opened-ended s at items p q h Opened.Ready e = lines-ended (suc (length s)) s at 2 (openOf items p q .auction) 0 h (omega arith) (opening-reached items p q refl e)
-opened-ended s at items p q h (Opened.Refused r) e = (_, refl, unfinished)
-
-first-ended : (s : List ℕ) (at : ℕ) (command : Command) → ((command ≡ malformed → ⊥) → at ≤ length s) → HasEnd (firstLine s at command)
-unfolding firstLine
-first-ended s at (opens items p q) h = opened-ended s at items p q (h (λ e. let z : _≡_ {A = ℕ} 0 1 = cc in omega arith)) (openOf items p q .answer) refl
-first-ended s at (arrives edges) h = (_, refl, unfinished)
-first-ended s at (withdraws item) h = (_, refl, unfinished)
-first-ended s at malformed h = (_, refl, unfinished)
-
-replay-ended : (s : List ℕ) → HasEnd (replayOf s)
-unfolding replayOf
-replay-ended s = go (ltb maxText (length s)) refl
-  where
-    go : (x : Bool) → ltb maxText (length s) ≡ x → HasEnd (replayOf s)
-    go true q = rw q (_, refl, unfinished)
-    go false q = rw q (first-ended s (lineAt s 0 .next) (commandOf (lineAt s 0)) (λ f. line-on s 0 f .1))
+use Rattle.replay.specs.Replay.{replayOf}
+use Rattle.replay.specs.ReplayLaws.{replayed, ReplayEnds, LinesReached, ReplayReached, RefusedBefore}
+use Rattle.replay.specs.TextDemand1.{first, arrived, withdrew, LineRefused, TextRefused, TextFinished, endingTold, ReplayAnswers, TextsDemand1}
+use Rattle.auction.proofs.Opening.{opening-ready}
+use Rattle.replay.proofs.ReplayLines.{unfinished}
+use Rattle.replay.proofs.Texts.{TextFate, stops, ends, replay-fate, refused-text, finished-text}
 
 pub replay-ends : ReplayEnds
-replay-ends s = let u = replay-ended s in (u .0, u .1)
+replay-ends s = let u = replay-fate s in (u .0, u .1)
+
+-- ---- Exactly
+
+module _ (s : List ℕ) where
+  -- What the text comes to is its fate
+  fated : {r : Replayed} → replayOf s ≡ done r → TextFate s r
+  fated {r} e =
+      let u = replay-fate s in
+      let h = sym (u .1) ∙ e in
+      let q : u .0 ≡ r = cc in
+      subst (TextFate s) q (u .2)
+
+  refused-fate : {b : Auction} {bids n : ℕ} {r : Refusal} {x : Replayed} → x ≡ replayed b bids (Ending.Stopped r n) → TextFate s x → TextRefused s n b bids r
+  refused-fate {b} {bids} {n} {r} e (stops {n = k} {m = m} {b = c} {r = q} t) =
+      let a : Ending.Stopped q k ≡ Ending.Stopped r n = ap (λ (x : Replayed). x .answer) e in
+      let same-r : q ≡ r = cc in
+      let same-n : k ≡ n = cc in
+      let same-b : c ≡ b = ap (λ (x : Replayed). x .auction) e in
+      let same-m : m ≡ bids = ap (λ (x : Replayed). x .bids) e in
+      rw (same-r, same-n, same-b, same-m) at t
+  refused-fate e (ends t) = unfinished (sym (ap (λ (x : Replayed). x .answer) e))
+
+  finished-fate : {b : Auction} {bids : ℕ} {x : Replayed} → x ≡ replayed b bids Ending.Finished → TextFate s x → (entries : ℕ) × TextFinished s b entries bids
+  finished-fate {b} {bids} e (ends {e = k} {m = m} {b = c} t) =
+      let same-b : c ≡ b = ap (λ (x : Replayed). x .auction) e in
+      let same-m : m ≡ bids = ap (λ (x : Replayed). x .bids) e in
+      (k, rw (same-b, same-m) at t)
+  finished-fate e (stops t) = unfinished (ap (λ (x : Replayed). x .answer) e)
+
+  -- What is told names how the text ends
+  told-refused : {b : Auction} {number line bids : ℕ} → 0 < number → (a : ReplayAnswers s b (told number line bids)) (x : Ending) → a .answer ≡ x →
+      (r : Refusal) × (codeOf r .number ≡ number) × TextRefused s line b bids r
+  told-refused {b} h a Ending.Finished e =
+      let z = ap (λ (t : Told). t .number) (sym (ap (λ (x : Ending). endingTold x (a .bids)) e) ∙ a .tells) in absurd (omega arith)
+  told-refused {b} {number} {line} {bids} h a (Ending.Stopped r n) e =
+      let t : refusedAt r n (a .bids) ≡ told number line bids = sym (ap (λ (x : Ending). endingTold x (a .bids)) e) ∙ a .tells in
+      let same-n : n ≡ line = ap (λ (t : Told). t .place) t in
+      let same-m : a .bids ≡ bids = ap (λ (t : Told). t .value) t in
+      let w = refused-fate (ap (λ (x : Ending). replayed b (a .bids) x) e) (fated (a .outcome)) in
+      (r, ap (λ (t : Told). t .number) t, rw (same-n, same-m) at w)
+
+  told-finished : {b : Auction} {bids : ℕ} (a : ReplayAnswers s b (served bids)) (x : Ending) → a .answer ≡ x → (entries : ℕ) × TextFinished s b entries bids
+  told-finished {b} {bids} a Ending.Finished e =
+      let same-m : a .bids ≡ bids = ap (λ (t : Told). t .value) (sym (ap (λ (x : Ending). endingTold x (a .bids)) e) ∙ a .tells) in
+      let w = finished-fate (ap (λ (x : Ending). replayed b (a .bids) x) e) (fated (a .outcome)) in
+      subst (λ (m : ℕ). (entries : ℕ) × TextFinished s b entries m) same-m w
+  told-finished {b} {bids} a (Ending.Stopped r n) e = served-apart bids r n _ (sym (sym (ap (λ (x : Ending). endingTold x (a .bids)) e) ∙ a .tells))
+
+pub texts-demand-1 : TextsDemand1
+texts-demand-1 s =
+    record {
+      refuses = λ b bids r n. (λ e. refused-fate s refl (fated s e), refused-text);
+      finishes = λ b bids. (λ e. finished-fate s refl (fated s e), λ u. finished-text (u .1));
+      numbered = λ b number line bids h. (
+        λ a. told-refused s h a (a .answer) refl,
+        λ u. record { answer = Ending.Stopped (u .0) line; bids = bids; outcome = refused-text (u .2); tells = ap (λ (k : ℕ). told k line bids) (u .1) },
+      );
+      served = λ b bids. (
+        λ a. told-finished s a (a .answer) refl,
+        λ u. record { answer = Ending.Finished; bids = bids; outcome = finished-text (u .1); tells = refl },
+      );
+    }
+
+-- ---- A history
+
+pub lines-reached : LinesReached
+lines-reached s n at b entries bids (first {k} {p} {q} w u) =
+    let h = opening-ready k p q (opened-ready _ (u .tells)) in
+    subst (λ (b : Auction). Reached b 0 0) (sym (ap (λ (o : Opening). o .auction) h) ∙ u .board) (Reached.opens k p q h)
+lines-reached s n at b entries bids (arrived {k = k} {c = c} {edges = edges} t w u) =
+    let h = arrived-bids (u .answer) k (u .tells) in
+    Reached.arrives edges (arrival c (Arrived.Bids k)) (lines-reached s _ _ _ _ _ t) (u .outcome ∙ ap (λ a. done (arrival c a)) h)
+lines-reached s n at b entries bids (withdrew {k = k} {item = item} {c = c} t w u) =
+    let h = withdrawn-bids (u .answer) k (u .tells) in
+    Reached.withdraws item (withdrawal c (Withdrawn.Bids k)) (lines-reached s _ _ _ _ _ t) (u .outcome ∙ ap (λ a. done (withdrawal c a)) h)
 
 pub replay-reached : ReplayReached
-replay-reached s r h a =
-    let u = replay-ended s in
-    let e = sym (u .1) ∙ h in
-    let q : u .0 ≡ r = cc in
-    subst (λ (r : Replayed). r .answer ≡ Ending.Finished → ReachedBy (r .auction) (r .bids)) q (u .2) a
+replay-reached s b bids a =
+    let u = texts-demand-1 s .served b bids .0 a in
+    record { entries = u .0; lines = u .1; reached = lines-reached s _ _ b (u .0) bids (u .1 .carried) }
 
--- ---- All pairs of a line
-
-pairs-length : (ns : List ℕ) (n : ℕ) → length (pairsOf ns n) ≡ n
-unfolding pairsOf
-pairs-length ns zero = refl
-pairs-length ns (suc n) = simp length-append (omega (arith, pairs-length ns n))
-
--- The first pairs of n are those of the lesser number
-pairs-first : (ns : List ℕ) (m n : ℕ) → take m (pairsOf ns n) ≡ pairsOf ns (min n m)
-unfolding pairsOf
-pairs-first ns m zero = simp (take-nil, zero-min)
-pairs-first ns m (suc n) = go (leb m n) refl (pairs-first ns m n)
-  where
-    go : (t : Bool) → leb m n ≡ t → take m (pairsOf ns n) ≡ pairsOf ns (min n m) → take m (pairsOf ns (suc n)) ≡ pairsOf ns (min (suc n) m)
-    go true q e =
-        let l = leb-true m n q in
-        let a : min (suc n) m ≡ min n m = omega arith in
-        rw a (take-append-le m (pairsOf ns n) _ (rw (pairs-length ns n) l) ∙ e)
-    go false q e =
-        let l = leb-false m n q in
-        let a : min (suc n) m ≡ suc n = omega arith in
-        rw a (take-all m (pairsOf ns (suc n)) (rw (pairs-length ns (suc n)) l))
-
--- The kept numbers give the same first pairs
-kept-cell : (ns : List ℕ) (j : ℕ) → j < kept → j < length ns → getD (sets (replicate kept 0) 0 ns) j 0 ≡ getD ns j 0
-kept-cell ns j h l = let e = sets-in (replicate kept 0) ns 0 j (omega arith) l in rw (zero-add j) at e
-
-pairs-kept : (ns : List ℕ) (n : ℕ) → 2 * n ≤ kept → 2 * n ≤ length ns → pairsOf (sets (replicate kept 0) 0 ns) n ≡ pairsOf ns n
-unfolding pairsOf
-pairs-kept ns zero h l = refl
-pairs-kept ns (suc n) h l =
-    rw (pairs-kept ns n (omega arith) (omega arith), kept-cell ns (2 * n) (omega arith) (omega arith), kept-cell ns (2 * n + 1) (omega arith) (omega arith))
-
-pub line-edges : LineEdges
-unfolding carryOut
-line-edges s at ns next w a even rest n b bids =
-    let l = line-complete s at ns next w in
-    let m = min (length ns / 2) maxEdges in
-    let t : isArrival (lineAt s at) ≡ true = rw (l, eq-eqb (getD s at 0) 65 a, eq-eqb (length ns % 2) 0 even) in
-    let same : edgesSaid (lineAt s at) ≡ take maxEdges (pairsOf ns (length ns / 2)) =
-    rw l (pairs-kept ns m (omega arith) (omega arith) ∙ sym (pairs-first ns maxEdges (length ns / 2))) in
-    carries-arrival (lineAt s at) rest n b bids t ∙ ap (afterArrival rest n bids) (ap (arriveOf b) same ∙ sym (enough-edges b (pairsOf ns (length ns / 2))))
+pub refused-before : RefusedBefore
+refused-before s n b bids r (LineRefused.malformed {at = at} {e = e} t l f g) = (at, e, t)
+refused-before s n b bids r (LineRefused.arrival {at = at} {e = e} t w u) = (at, e, t)
+refused-before s n b bids r (LineRefused.withdrawal {at = at} {e = e} t w u) = (at, e, t)

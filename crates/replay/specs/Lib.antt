@@ -1,3 +1,5 @@
 -- The lines of a history text carried out.
 pub mod Replay
+pub mod Says
+pub mod TextDemand1
 pub mod ReplayLaws

@@ -1,16 +1,19 @@
 -- Statements about the replay: it ends, a text that is finished is a history, and a line's pairs are all its edges.
 use mathlib.Core.Path.{_≡_}
 use mathlib.Core.List.{List}
-use Prim.Native.Nat.{ℕ, _/_, _%_}
+use Prim.Native.Nat.{ℕ, suc, _/_, _%_}
 use lib.ListN.{length, getD}
 use Rattle.text.specs.Line.{lineAt}
 use Rattle.text.specs.Form.{LineForm}
 use Rattle.board.specs.declared.record.Auction.{Auction}
 use Rattle.replay.specs.declared.Ending.{Ending}
 use Rattle.replay.specs.declared.Replayed.{Replayed}
+use Rattle.refusals.specs.declared.Refusal.{Refusal}
+use Rattle.refusals.specs.Told.{served}
 use Rattle.bidding.specs.Rule.{Outcome, done}
 use Rattle.auction.specs.Histories.{Reached}
 use Rattle.replay.specs.Replay.{arrives, pairsOf, commandOf, carryOut, replayOf}
+use Rattle.replay.specs.TextDemand1.{Lines, LineRefused, TextFinished, ReplayAnswers}
 
 -- How far a replay came
 abbrev pub replayed : Auction → ℕ → Ending → Replayed
@@ -24,10 +27,25 @@ ReachedBy b bids = (e : ℕ) × Reached b e bids
 abbrev pub ReplayEnds : Type 0
 ReplayEnds = (s : List ℕ) → (r : Replayed) × (replayOf s ≡ done r)
 
--- The lines of a finished text are a history with the bids in all; so Histories and Demand2 say of its board that it is sound, the sum, the
--- share, and how many bids there are
+-- Lines carried out are a history, call by call: their entries are the edges accepted, their bids the sum of those that the calls returned
+abbrev pub LinesReached : Type 0
+LinesReached = (s : List ℕ) (n at : ℕ) (b : Auction) (entries bids : ℕ) → Lines s n at b entries bids → Reached b entries bids
+
+-- So is a finished text: the history that its lines are, with its own entries and the bids in all. Histories and Demand2 then say of its board that it
+-- is sound, the sum, the share, and how many bids there are
+pub record TextReached (s : List ℕ) (b : Auction) (bids : ℕ) : Type 0 where
+  pub entries : ℕ
+  pub lines : TextFinished s b entries bids
+  pub reached : Reached b entries bids
+
 abbrev pub ReplayReached : Type 0
-ReplayReached = (s : List ℕ) (r : Replayed) → replayOf s ≡ done r → r .answer ≡ Ending.Finished → ReachedBy (r .auction) (r .bids)
+ReplayReached = (s : List ℕ) (b : Auction) (bids : ℕ) → ReplayAnswers s b (served bids) → TextReached s b bids
+
+-- A text that is refused at a line after the first leaves the board of the lines before, and counts their bids
+abbrev pub RefusedBefore : Type 0
+RefusedBefore =
+    (s : List ℕ) (n : ℕ) (b : Auction) (bids : ℕ) (r : Refusal) → LineRefused s (suc (suc n)) b bids r →
+    (at : ℕ) × (entries : ℕ) × Lines s (suc n) at b entries bids
 
 -- "`A`, kettle, worth, kettle, worth and so on": a line keeps its first numbers only, and is carried out as an arrival with all its pairs
 abbrev pub LineEdges : Type 0

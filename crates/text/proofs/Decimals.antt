@@ -6,13 +6,13 @@ use native.Mathlib.Omega.{arith}
 use mathlib.Core.Bool.{Bool, true, false}
 use mathlib.Core.List.{List, [], _∷_, _++_, append-assoc, append-nil}
 use lib.ListN.{length, getD, length-append, List·getD-append}
-use lib.Dec.{ltb}
-use borrow.Author.Tests.{lt-ltb, le-ltb, ltb-true, ltb-false, le-leb}
+use lib.Dec.{ltb, eqb}
+use borrow.Author.Tests.{lt-ltb, le-ltb, ltb-true, ltb-false, le-leb, eqb-true, eqb-false}
 use Rattle.text.specs.Bytes.{isDigit}
 use Rattle.text.specs.Limits.{wideDigits}
 use Rattle.text.specs.Number.{digits, valueOf}
 use Rattle.text.specs.Print.{decimalFrom, decimal}
-use Rattle.text.specs.Form.{DecimalValue, DecimalFirst}
+use Rattle.text.specs.Form.{DecimalValue, DecimalFirst, AllDigits, DecimalDigits, DecimalOnly, DecimalPrinted}
 use Rattle.text.proofs.Numbers.{in-range, none-front, some-front}
 
 -- one digit, and more
@@ -127,3 +127,59 @@ decimal-more n (b ∷ bs) p = go (isDigit b) refl (decimal-more (n * 10 + (b - 4
         (rec (omega arith)
         ∙ (ap (λ (l : List ℕ). l ++ digits bs) (digit-more n (b - 48) p (omega arith))
         ∙ rw (z, append-assoc (decimal n) (b ∷ []) (digits bs))))
+
+-- digits of which only a lone one is 0 are their value, printed
+pub printed-first : (b : ℕ) (l : List ℕ) → isDigit b ≡ true → (b ≡ 48 → digits l ≡ []) → decimal (valueOf (0 * 10 + (b - 48)) (digits l)) ≡ b ∷ digits l
+printed-first b l d alone = go (eqb b 48) refl
+  where
+    go : (t : Bool) → eqb b 48 ≡ t → decimal (valueOf (0 * 10 + (b - 48)) (digits l)) ≡ b ∷ digits l
+    go true q = let z = eqb-true b 48 q in rw (alone z, z) (small 0 (omega arith))
+    go false q =
+        let w = in-range 48 57 b d in
+        let ne = eqb-false b 48 q in
+        let z : 48 + (0 * 10 + (b - 48)) ≡ b = omega arith in
+        decimal-more (0 * 10 + (b - 48)) l (omega arith)
+        ∙ ap (λ (ds : List ℕ). ds ++ digits l) (small (0 * 10 + (b - 48)) (omega arith) ∙ ap (λ (c : ℕ). c ∷ []) z)
+
+pub empty : (l : List ℕ) → length l ≡ 0 → l ≡ []
+empty [] e = refl
+empty (x ∷ xs) e = absurd (omega arith)
+
+-- a list of digits is all its digits
+all-rest : (b : ℕ) (bs : List ℕ) → AllDigits (b ∷ bs) → AllDigits bs
+all-rest b bs h i l = h (suc i) (omega arith)
+
+digits-all : (l : List ℕ) → AllDigits l → digits l ≡ l
+digits-all [] h = refl
+digits-all (b ∷ bs) h = some-front (b ∷ bs) (h 0 (omega arith)) ∙ ap (λ (ds : List ℕ). b ∷ ds) (digits-all bs (all-rest b bs h))
+
+all-more : (b : ℕ) (bs : List ℕ) → isDigit b ≡ true → AllDigits bs → (i : ℕ) → i < length (b ∷ bs) → isDigit (getD (b ∷ bs) i 0) ≡ true
+all-more b bs d h zero l = d
+all-more b bs d h (suc i) l = h i (omega arith)
+
+all-digits : (l : List ℕ) → AllDigits (digits l)
+all-digits [] = λ i h. absurd (not-suc-le-zero h)
+all-digits (b ∷ bs) = go (isDigit b) refl (all-digits bs)
+  where
+    go : (t : Bool) → isDigit b ≡ t → AllDigits (digits bs) → AllDigits (digits (b ∷ bs))
+    go true e rec = rw (some-front (b ∷ bs) e) (all-more b (digits bs) e rec)
+    go false e rec = rw (none-front (b ∷ bs) e) (λ i h. absurd (not-suc-le-zero h))
+
+pub decimal-digits : DecimalDigits
+decimal-digits n =
+    let e : digits (decimal n) ≡ decimal n = ap digits (sym (append-nil (decimal n))) ∙ (digits-decimal n [] ∙ append-nil (decimal n)) in
+    rw e at (all-digits (decimal n))
+
+pub decimal-only : DecimalOnly
+decimal-only n [] p = absurd (not-suc-le-zero (p .some))
+decimal-only n (b ∷ bs) p =
+    let d = digits-all bs (all-rest b bs (p .digit)) in
+    let f : decimal (valueOf (0 * 10 + (b - 48)) (digits bs)) ≡ b ∷ digits bs = printed-first b bs (p .digit 0 (omega arith)) (λ z. d ∙ empty bs (omega (arith, p .first z))) in
+    sym (sym (ap decimal (p .value)) ∙ (rw d at f))
+
+pub decimal-printed : DecimalPrinted
+decimal-printed n = record { digit = decimal-digits n; some = some-digit n; value = value-decimal n; first = lone n }
+  where
+    lone : (n : ℕ) → getD (decimal n) 0 0 ≡ 48 → length (decimal n) ≡ 1
+    lone zero e = ap length (small 0 (omega arith))
+    lone (suc n) e = absurd (omega (arith, first-digit (suc n) (omega arith)))

@@ -1,7 +1,7 @@
 -- What is read is of the form, and what is of the form is read. Assumes nothing.
 use mathlib.Core.Path.{_≡_, refl, sym, _∙_, ap}
 use mathlib.Core.Logic.{inl, inr}
-use Prim.Native.Nat.{ℕ, zero, suc, _+_, _*_, _-_, _<_, _≤_}
+use Prim.Native.Nat.{ℕ, zero, suc, _+_, _<_, _≤_}
 use native.Mathlib.Nat.{not-suc-le-zero}
 use native.Mathlib.Omega.{arith}
 use mathlib.Core.Bool.{Bool, true, false, _&&_, _||_, not, false≢true, or-false, or-true}
@@ -15,12 +15,12 @@ use Rattle.text.specs.Limits.{maxDigits}
 use Rattle.text.specs.Number.{digits, digitsAt, valueOf, isNumber, numberOf, fieldAt}
 use Rattle.text.specs.Line.{Fields, all, bad, prepend, follow, fieldsFrom, fieldsAt, lineWith, lineAt}
 use Rattle.text.specs.Print.{decimal}
-use Rattle.text.specs.Form.{FieldsAt, closed, field, NumberSound, NumberComplete, LineOrBad, LineSound, LineComplete, LineAhead}
+use Rattle.text.specs.Form.{FieldsAt, closed, field, NumberSound, NumberComplete, LineOrBad, LineSound, LineComplete, LineOnce, LineAhead}
 use Rattle.text.specs.declared.scan.Field.{Field}
 use Rattle.text.specs.declared.scan.Field.the-variants.{Number, Bad}
-use Rattle.text.proofs.Decimals.{small, some-digit, first-digit, digits-decimal, value-decimal, decimal-more}
+use Rattle.text.proofs.Decimals.{small, some-digit, first-digit, digits-decimal, value-decimal, printed-first, empty}
 use Rattle.text.proofs.Lines.{at-newline, at-tab, at-other}
-use Rattle.text.proofs.Numbers.{inside, both, picked, in-range, none-front, some-front, byte-front, none}
+use Rattle.text.proofs.Numbers.{inside, both, picked, none-front, some-front, byte-front, none}
 
 -- ---- numbers
 -- a first digit 0 stands alone
@@ -29,32 +29,14 @@ alone b n e z =
     let w : eqb n 1 || not (eqb b 48) ≡ true = both (leb 1 n && leb n maxDigits) (eqb n 1 || not (eqb b 48)) e .1 in
     eqb-true n 1 (sym (or-false (eqb n 1)) ∙ (rw (eq-eqb b 48 z) at w))
 
-empty : (l : List ℕ) → length l ≡ 0 → l ≡ []
-empty [] e = refl
-empty (x ∷ xs) e = absurd (omega arith)
-
--- digits that make a number are that number, printed
-printed-first : (b : ℕ) (l : List ℕ) → isDigit b ≡ true → isNumber b (suc (length (digits l))) ≡ true
-    → decimal (valueOf (0 * 10 + (b - 48)) (digits l)) ≡ b ∷ digits l
-printed-first b l d e = go (eqb b 48) refl
-  where
-    go : (t : Bool) → eqb b 48 ≡ t → decimal (valueOf (0 * 10 + (b - 48)) (digits l)) ≡ b ∷ digits l
-    go true q =
-        let z = eqb-true b 48 q in
-        let n : digits l ≡ [] = empty (digits l) (omega (arith, alone b (suc (length (digits l))) e z)) in
-        rw (n, z) (small 0 (omega arith))
-    go false q =
-        let w = in-range 48 57 b d in
-        let ne = eqb-false b 48 q in
-        let z : 48 + (0 * 10 + (b - 48)) ≡ b = omega arith in
-        decimal-more (0 * 10 + (b - 48)) l (omega arith)
-        ∙ ap (λ (ds : List ℕ). ds ++ digits l) (small (0 * 10 + (b - 48)) (omega arith) ∙ ap (λ (c : ℕ). c ∷ []) z)
-
 printed-all : (l : List ℕ) → isNumber (getD (digits l) 0 0) (length (digits l)) ≡ true → decimal (valueOf 0 (digits l)) ≡ digits l
 printed-all l e = go (isDigit (getD l 0 0)) refl
   where
     go : (t : Bool) → isDigit (getD l 0 0) ≡ t → decimal (valueOf 0 (digits l)) ≡ digits l
-    go true d = rw (some-front l d) (printed-first (getD l 0 0) (drop 1 l) d (rw (some-front l d) at e))
+    go true d =
+        let w = rw (some-front l d) at e in
+        let n = suc (length (digits (drop 1 l))) in
+        rw (some-front l d) (printed-first (getD l 0 0) (drop 1 l) d (λ z. empty (digits (drop 1 l)) (omega (arith, alone (getD l 0 0) n w z))))
     go false d = absurd (false≢true (rw (none-front l d) at e))
 
 -- a list is its digits and the rest, which starts with none
@@ -157,6 +139,13 @@ unfolding lineAt fieldsAt
 line-complete s at ns next w =
     let a = ahead (w .fields) in
     rw (w .letter) (ap (lineWith (getD s at 0)) (fields-complete (w .fields) (length s) (omega arith)))
+
+pub line-once : LineOnce
+line-once s at ns ms next end w v =
+    let a = ahead (w .fields) in
+    let b = ahead (v .fields) in
+    let e = sym (fields-complete (w .fields) (length s) (omega arith)) ∙ fields-complete (v .fields) (length s) (omega arith) in
+    (cc, cc)
 
 pub line-sound : LineSound
 unfolding lineAt fieldsAt

@@ -1,5 +1,8 @@
+pub mod Boundary
 pub mod Decimals
+pub mod Fields
 pub mod Forms
+pub mod Lent
 pub mod Lines
 pub mod Numbers
 pub mod Puts

@@ -19,6 +19,29 @@ DecimalValue = (n : ℕ) → valueOf 0 (decimal n) ≡ n
 abbrev pub DecimalFirst : Type 0
 DecimalFirst = (n : ℕ) → 0 < n → 48 < getD (decimal n) 0 0
 
+-- every byte of a list is a digit
+abbrev pub AllDigits : List ℕ → Type 0
+AllDigits ds = (i : ℕ) → i < length ds → isDigit (getD ds i 0) ≡ true
+
+-- each byte of a printed number is a digit
+abbrev pub DecimalDigits : Type 0
+DecimalDigits = (n : ℕ) → AllDigits (decimal n)
+
+-- n in "decimal digits, no leading zero but in 0 itself", told by what the digits are and not by how they are made
+pub record Printed (n : ℕ) (ds : List ℕ) : Type 0 where
+  pub digit : AllDigits ds
+  pub some : 0 < length ds
+  pub value : valueOf 0 ds ≡ n
+  pub first : getD ds 0 0 ≡ 48 → length ds ≡ 1
+
+-- no other digits than those that are printed do
+abbrev pub DecimalOnly : Type 0
+DecimalOnly = (n : ℕ) (ds : List ℕ) → Printed n ds → ds ≡ decimal n
+
+-- and those do
+abbrev pub DecimalPrinted : Type 0
+DecimalPrinted = (n : ℕ) → Printed n (decimal n)
+
 -- "Numbers have 1 to 7 decimal digits, no leading zero but in 0 itself": v as it is printed, and no digit after it
 pub record NumberAt (s : List ℕ) (at : ℕ) (v : ℕ) (next : ℕ) : Type 0 where
   pub printed : drop at s ≡ decimal v ++ drop next s
@@ -52,6 +75,10 @@ LineSound = (s : List ℕ) (at : ℕ) → LineOrBad s at
 
 abbrev pub LineComplete : Type 0
 LineComplete = (s : List ℕ) (at : ℕ) (ns : List ℕ) (next : ℕ) → LineForm s at ns next → lineAt s at ≡ lineWith (getD s at 0) (all ns next)
+
+-- a line has one list of numbers and one end
+abbrev pub LineOnce : Type 0
+LineOnce = (s : List ℕ) (at : ℕ) (ns ms : List ℕ) (next end : ℕ) → LineForm s at ns next → LineForm s at ms end → (ns ≡ ms) × (next ≡ end)
 
 -- a line ends after it starts, in the text
 abbrev pub LineAhead : Type 0

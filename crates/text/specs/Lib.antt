@@ -1,3 +1,4 @@
+pub mod Boundary
 pub mod Bytes
 pub mod Form
 pub mod Limits

@@ -1,10 +1,11 @@
 // The line at a position of a text: a letter and its numbers.
 ghost use mathlib.Core.Path.{_≡_};
-ghost use lib.ListN.{set};
+ghost use lib.ListN.{length, set};
+ghost use Rattle.text.specs.Limits.{kept};
 ghost use Rattle.text.specs.Line.{badLine, fieldsAt, lineWith, lineAt};
+ghost use Rattle.text.specs.Reader.{closedAt};
 use crate::NEWLINE;
-use crate::TAB;
-use crate::reader;
+use crate::reader::Reader;
 use crate::scan;
 use crate::scan::Field;
 
@@ -32,42 +33,47 @@ fn bad_line() -> Line
 }
 
 // The number of field i, where there is room for it.
-fn keep(numbers: &mut [u64], i: usize, number: u64)
+fn keep(numbers: &mut [u64; KEPT], i: usize, number: u64)
+    requires { ⌜ length (now numbers) ≡ kept ⌝ }
     ensures { λ _. ⌜ now (numbers .exit) ≡ set (now (numbers .entry)) i number ⌝ }
 {
-    if i < numbers.len() {
+    if i < KEPT {
         numbers[i] = number;
     }
 }
 
-// A letter with the fields from a position on, to the end of the line.
+// The line of a letter and so many fields, if it is closed at a position; else a bad one.
+fn closed(text: &[u8], at: usize, letter: u8, count: usize, numbers: [u64; KEPT]) -> Line
+    ensures { λ r. ⌜ r ≡ closedAt (now (text .entry)) at letter count numbers ⌝ }
+{
+    if scan::byte_at(text, at) == NEWLINE {
+        let next = at + 1;
+        return Line {
+            letter,
+            next,
+            count,
+            numbers,
+        };
+    }
+    bad_line()
+}
+
+// A letter with the fields from a position on, to the end of the line: one reader moves forward,
+// field by field.
 fn fields_at(text: &[u8], at: usize, letter: u8) -> Line
     ensures { λ r. ⌜ r ≡ lineWith letter (fieldsAt (now (text .entry)) at) ⌝ }
 {
     let mut numbers = [0u64; KEPT];
     let mut count: usize = 0;
-    let mut i = at;
+    let mut reader = Reader::new(text, at);
     loop {
-        let byte = scan::byte_at(text, i);
-        if byte == NEWLINE {
-            let next = i + 1;
-            return Line {
-                letter,
-                next,
-                count,
-                numbers,
-            };
-        }
-        if byte != TAB {
-            return bad_line();
-        }
-        let field = reader::take_at(text, i + 1);
-        let Field::Number(number, next) = field else {
-            return bad_line();
+        let field = reader.current();
+        let Field::Number(number, _) = field else {
+            return closed(text, reader.at, letter, count, numbers);
         };
+        reader = reader.past(field);
         keep(&mut numbers, count, number);
         count = count + 1;
-        i = next;
     }
 }
 

@@ -1,8 +1,7 @@
 // A text and a position in it, which moves forward field by field. Each function over it is thin, and leaves the work to
 // a function on the text and the position.
 ghost use mathlib.Core.Path.{_≡_};
-ghost use Rattle.text.specs.Number.{fieldAt};
-ghost use Rattle.text.specs.Reader.{afterOf, endedAt};
+ghost use Rattle.text.specs.Reader.{tabbedAt, afterOf};
 use crate::scan;
 use crate::scan::Field;
 
@@ -19,11 +18,11 @@ impl<'a> Reader<'a> {
         Reader { text, at }
     }
 
-    // The field at the reader's position.
+    // The field at the reader's position: a tab, and a number.
     pub fn current(self) -> Field
-        ensures { λ r. ⌜ r ≡ fieldAt (now (self .entry .text)) (self .entry .at) ⌝ }
+        ensures { λ r. ⌜ r ≡ tabbedAt (now (self .entry .text)) (self .entry .at) ⌝ }
     {
-        scan::field_at(self.text, self.at)
+        scan::tabbed_at(self.text, self.at)
     }
 
     // The reader moved past a field; a bad field does not move it.
@@ -45,24 +44,4 @@ fn after(field: Field, at: usize) -> usize
         Field::Number(_, next) => next,
         Field::Bad => at,
     }
-}
-
-// The field with its end.
-fn ended(field: Field, at: usize) -> Field
-    ensures { λ r. ⌜ r ≡ endedAt field at ⌝ }
-{
-    match field {
-        Field::Number(number, _) => Field::Number(number, at),
-        Field::Bad => Field::Bad,
-    }
-}
-
-// The field at a position, its end read off the reader that moved past it: a plain function, whose callers need no walk.
-pub fn take_at(text: &[u8], at: usize) -> Field
-    ensures { λ r. ⌜ r ≡ fieldAt (now (text .entry)) at ⌝ }
-{
-    let start = Reader::new(text, at);
-    let field = start.current();
-    let rest = start.past(field);
-    ended(field, rest.at)
 }

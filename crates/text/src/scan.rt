@@ -1,8 +1,10 @@
-// The number that starts at a position of a text.
+// The field that starts at a position of a text: a tab, and a number.
 ghost use mathlib.Core.Path.{_≡_};
 ghost use lib.ListN.{getD};
 ghost use Rattle.text.specs.Bytes.{within};
 ghost use Rattle.text.specs.Number.{isNumber, fieldAt};
+ghost use Rattle.text.specs.Reader.{tabbedAt};
+use crate::TAB;
 
 // The most decimal digits of a number.
 pub const MAX_DIGITS: usize = 7;
@@ -56,7 +58,7 @@ fn is_number(first: u8, count: usize) -> bool
 }
 
 // The number at a position: all the digits that stand together there.
-pub(crate) fn field_at(text: &[u8], at: usize) -> Field
+fn field_at(text: &[u8], at: usize) -> Field
     ensures { λ r. ⌜ r ≡ fieldAt (now (text .entry)) at ⌝ }
 {
     let first = byte_at(text, at);
@@ -73,6 +75,16 @@ pub(crate) fn field_at(text: &[u8], at: usize) -> Field
     }
     if is_number(first, end - at) {
         return Field::Number(value, end);
+    }
+    Field::Bad
+}
+
+// The field at a position: a tab, and the number after it.
+pub(crate) fn tabbed_at(text: &[u8], at: usize) -> Field
+    ensures { λ r. ⌜ r ≡ tabbedAt (now (text .entry)) at ⌝ }
+{
+    if byte_at(text, at) == TAB {
+        return field_at(text, at + 1);
     }
     Field::Bad
 }

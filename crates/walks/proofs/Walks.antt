@@ -1,8 +1,8 @@
 -- What every walk by hand repeats, stated once, for functions without a `&mut` parameter and without `requires`. Assumes nothing.
 -- A walk shows that a function's MIR, run statement by statement, ends in what the contract says. It is needed where a function takes, makes or
--- returns a struct that holds a reference, or a slice of structs. Copy the proof whose shape is nearest: in crate text, under proofs/reader,
---     Reader/new       a struct is made of the parameters            Reader/past      one call of plain data, and the struct is made anew
---     Reader/current   the struct is opened for a call               take_at          four calls, locals of the struct, and a field read
+-- returns a struct that holds a reference, or a slice of structs. Copy the proof whose shape is nearest: in crate text, under proofs,
+--     reader/Reader/new       a struct is made of the parameters     reader/Reader/past   one call of plain data, and the struct is made anew
+--     reader/Reader/current   the struct is opened for a call        line/fields_at       a loop with a local of the struct, and an array that is lent
 -- and in crate auction the walk of a loop over a slice of structs. The function's MIR has the statements and the locals to walk. Then:
 -- 1. A context is a list of entries, counted from 0. With n locals, local i stands at 2 (n - 1 - i) once they are made, and after it that it dies;
 --    behind all locals stand the token and what the parameters own. What is put in front shifts all: write the context as a comment.

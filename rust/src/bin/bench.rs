@@ -137,11 +137,11 @@ fn whole_texts() {
         let case = case(Pattern::UpTo(9_999), bidders, items, Slack { p: 1, q: 100 });
         let text = &case.text;
         let mut out = Box::new([0; MAX_OUTPUT]);
-        let length = ffi::sheet_text(text, &mut out);
-        assert_eq!(out[..length], fast::text::sheet(text));
+        let told = ffi::sheet_text(text, &mut out[..]);
+        assert_eq!((told.number, &out[..told.value as usize]), (0, &fast::text::sheet(text)[..]));
         let [ours, plain] = medians(
             RUNS,
-            [&mut || keep(ffi::sheet_text(black_box(text), &mut out)), &mut || {
+            [&mut || keep(ffi::sheet_text(black_box(text), &mut out[..])), &mut || {
                 keep(fast::text::sheet(black_box(text)))
             }],
         );
@@ -195,7 +195,7 @@ fn grown(name: &str, bidders: u64, items: u64, q: u64) {
     let text = &case.text;
     let texts = medians(
         RUNS,
-        [&mut || keep(ffi::sheet_text(black_box(text), &mut out)), &mut || {
+        [&mut || keep(ffi::sheet_text(black_box(text), &mut out[..])), &mut || {
             keep(fast::text::sheet(black_box(text)))
         }],
     );

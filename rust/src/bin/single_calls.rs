@@ -1,7 +1,8 @@
-//! Makes a full board and then each call on it once: what a call costs by itself is read off the symbols
-//! `noughtelm_*` of a run that counts instructions.
+//! Makes a full board and then each call on it once, and the calls on the dense text: what a call costs by
+//! itself is read off the symbols `noughtelm_*` of a run that counts instructions.
 
 use noughtelm_tests::ffi::*;
+use noughtelm_tests::gen::text::dense;
 use std::hint::black_box;
 
 /// 127 bidders with an edge at each of 64 items, weights to 9,999, slack 1/100.
@@ -31,4 +32,9 @@ fn main() {
     // By another symbol than the arrivals above, so that it is counted by itself.
     let none = EdgeBuffer::new(&[]);
     println!("arrive without edges {}", arrive_buffer(black_box(board), none).number);
+    let text = dense();
+    let mut page = vec![0; MAX_OUTPUT];
+    println!("replay {}", replay(black_box(&text)).value);
+    println!("plan of the text {}", plan_text(black_box(&text), &mut page).value);
+    println!("what is printed of it {}", sheet_text(black_box(&text), &mut page).value);
 }

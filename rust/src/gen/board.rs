@@ -17,7 +17,7 @@ pub fn sound(rng: &mut Rng) -> Record {
     r.slack = Slack { p: rng.pick(&[1, middle, q - 1]), q };
     fill_edges(rng, &mut r);
     for item in 0..r.items as usize {
-        r.withdrawn[item] = rng.chance(1, 8);
+        r.withdrawn[item] = rng.chance(1, 8) as u8;
     }
     match_some(rng, &mut r);
     repair(&mut r);
@@ -39,7 +39,7 @@ fn fill_edges(rng: &mut Rng, r: &mut Record) {
 fn match_some(rng: &mut Rng, r: &mut Record) {
     let mut bidders: Vec<usize> = (0..r.arrived as usize).collect();
     rng.shuffle(&mut bidders);
-    for item in (0..r.items as usize).filter(|&i| !r.withdrawn[i]) {
+    for item in (0..r.items as usize).filter(|&i| r.withdrawn[i] == 0) {
         let fit = bidders.iter().position(|&b| r.rows[b][item] != 0);
         let Some(at) = fit.filter(|_| rng.chance(4, 5)) else {
             continue;
@@ -60,7 +60,7 @@ fn match_some(rng: &mut Rng, r: &mut Record) {
 fn repair(r: &mut Record) {
     let factor = r.slack.q - r.slack.p;
     for bidder in 0..r.arrived as usize {
-        for item in (0..r.items as usize).filter(|&i| !r.withdrawn[i]) {
+        for item in (0..r.items as usize).filter(|&i| r.withdrawn[i] == 0) {
             let allowed = (r.gain[bidder] + r.price[item]) / factor;
             let weight = &mut r.rows[bidder][item];
             *weight = (*weight).min(allowed.min(MAX_WEIGHT) as u32);
@@ -72,7 +72,7 @@ fn repair(r: &mut Record) {
 /// place for it.
 pub type Spoil = fn(&mut Rng, &mut Record) -> bool;
 
-pub const SPOILS: [(&str, Spoil); 26] = [
+pub const SPOILS: [(&str, Spoil); 28] = [
     ("no items", |_, r| set(&mut r.items, 0)),
     ("too many items", |rng, r| set(&mut r.items, rng.pick(&[65, 1 << 32, u64::MAX]))),
     ("too many bidders", |rng, r| set(&mut r.arrived, rng.pick(&[129, 256, u64::MAX]))),
@@ -83,14 +83,16 @@ pub const SPOILS: [(&str, Spoil); 26] = [
     ("weight above its limit", |rng, r| weight_above(rng, r)),
     ("unused price", |rng, r| past_items(rng, r, |r, i| r.price[i] = 1)),
     ("unused holder", |rng, r| past_items(rng, r, |r, i| r.holder[i] = 1)),
-    ("unused withdrawn", |rng, r| past_items(rng, r, |r, i| r.withdrawn[i] = true)),
+    ("unused withdrawn", |rng, r| past_items(rng, r, |r, i| r.withdrawn[i] = 1)),
+    ("unused flag above 1", |rng, r| past_items(rng, r, |r, i| r.withdrawn[i] = 2)),
+    ("flag above 1", |rng, r| flag_above(rng, r)),
     ("unused weight", |rng, r| past_items(rng, r, |r, i| r.rows[0][i] = 1)),
     ("unused gain", |rng, r| past_bidders(rng, r, |r, b| r.gain[b] = 1)),
     ("unused row", |rng, r| past_bidders(rng, r, |r, b| r.rows[b][0] = 1)),
     ("holder not arrived", |rng, r| stranger(rng, r)),
     ("bidder at two items", |rng, r| two_items(rng, r)),
     ("holder without edge", |rng, r| at_pair(rng, r, |r, b, i| r.rows[b][i] = 0)),
-    ("withdrawn item held", |rng, r| at_pair(rng, r, |r, _, i| r.withdrawn[i] = true)),
+    ("withdrawn item held", |rng, r| at_pair(rng, r, |r, _, i| r.withdrawn[i] = 1)),
     ("pair's weight raised", |rng, r| at_pair(rng, r, |r, b, i| r.rows[b][i] += 1)),
     ("pair's gain raised", |rng, r| at_pair(rng, r, |r, b, _| r.gain[b] += 1)),
     ("pair's price raised", |rng, r| at_pair(rng, r, |r, _, i| r.price[i] += 1)),
@@ -108,7 +110,7 @@ fn set(cell: &mut u64, value: u64) -> bool {
 
 fn weight_above(rng: &mut Rng, r: &mut Record) -> bool {
     // A withdrawn item's edge meets no clause but the limit itself.
-    let gone: Vec<usize> = (0..r.items as usize).filter(|&i| r.withdrawn[i]).collect();
+    let gone: Vec<usize> = (0..r.items as usize).filter(|&i| r.is_gone(i)).collect();
     if gone.is_empty() || r.arrived == 0 {
         return false;
     }
@@ -153,6 +155,16 @@ fn at_pair(rng: &mut Rng, r: &mut Record, break_at: fn(&mut Record, usize, usize
     true
 }
 
+/// At an item that nobody holds, where either flag would be sound.
+fn flag_above(rng: &mut Rng, r: &mut Record) -> bool {
+    let free = free_items(r);
+    if free.is_empty() {
+        return false;
+    }
+    r.withdrawn[rng.pick(&free)] = rng.pick(&[2, 3, 128, 254, 255]);
+    true
+}
+
 fn stranger(rng: &mut Rng, r: &mut Record) -> bool {
     let free = free_items(r);
     if free.is_empty() {
@@ -165,7 +177,7 @@ fn stranger(rng: &mut Rng, r: &mut Record) -> bool {
 /// A free item, by a new edge of the same weight, and the price that fits.
 fn two_items(rng: &mut Rng, r: &mut Record) -> bool {
     let held = pairs(r);
-    let free: Vec<usize> = free_items(r).into_iter().filter(|&i| !r.withdrawn[i]).collect();
+    let free: Vec<usize> = free_items(r).into_iter().filter(|&i| !r.is_gone(i)).collect();
     if held.is_empty() || free.is_empty() {
         return false;
     }
@@ -179,7 +191,7 @@ fn two_items(rng: &mut Rng, r: &mut Record) -> bool {
 
 fn free_price(rng: &mut Rng, r: &mut Record, withdrawn: bool) -> bool {
     let mut free = free_items(r);
-    free.retain(|&item| r.withdrawn[item] == withdrawn);
+    free.retain(|&item| r.is_gone(item) == withdrawn);
     if free.is_empty() {
         return false;
     }
@@ -204,7 +216,7 @@ fn uncover(rng: &mut Rng, r: &mut Record) -> bool {
     let held = pairs(r);
     let mut open = Vec::new();
     for bidder in 0..r.arrived as usize {
-        for item in (0..r.items as usize).filter(|&i| !r.withdrawn[i]) {
+        for item in (0..r.items as usize).filter(|&i| !r.is_gone(i)) {
             if least(r, bidder, item) <= MAX_WEIGHT && !held.contains(&(bidder, item)) {
                 open.push((bidder, item));
             }
@@ -230,7 +242,7 @@ pub fn nudge(rng: &mut Rng, r: &mut Record) {
         4 => r.price[item] = near(rng, r.price[item]),
         5 => r.gain[bidder] = near(rng, r.gain[bidder]),
         6 => r.holder[item] = near(rng, r.holder[item] as u64) as u8,
-        7 => r.withdrawn[item] = !r.withdrawn[item],
+        7 => r.withdrawn[item] = near(rng, r.withdrawn[item] as u64) as u8,
         _ => r.rows[bidder][item] = near(rng, r.rows[bidder][item] as u64) as u32,
     }
 }
@@ -276,7 +288,7 @@ impl Unused {
         match self {
             Unused::Price(i) => r.price[i] = number,
             Unused::Holder(i) => r.holder[i] = number as u8,
-            Unused::Withdrawn(i) => r.withdrawn[i] = true,
+            Unused::Withdrawn(i) => r.withdrawn[i] = number.min(255) as u8,
             Unused::Gain(b) => r.gain[b] = number,
             Unused::Weight(b, i) => r.rows[b][i] = number as u32,
         }
@@ -294,7 +306,7 @@ pub fn random(rng: &mut Rng) -> Record {
     r.price.iter_mut().for_each(|y| *y = cell(most * 1_000));
     r.gain.iter_mut().for_each(|g| *g = cell(most * 1_000));
     r.holder.iter_mut().for_each(|h| *h = cell(130) as u8);
-    r.withdrawn.iter_mut().for_each(|gone| *gone = cell(1) % 2 == 1);
+    r.withdrawn.iter_mut().for_each(|gone| *gone = cell(1) as u8);
     r.rows.iter_mut().flatten().for_each(|w| *w = cell(most) as u32);
     r
 }

@@ -15,7 +15,8 @@ pub struct Record {
     pub price: [u64; MAX_ITEMS],
     /// The holder's number, 0 where the item is free.
     pub holder: [u8; MAX_ITEMS],
-    pub withdrawn: [bool; MAX_ITEMS],
+    /// 1 for an item that is withdrawn, 0 for one that is not.
+    pub withdrawn: [u8; MAX_ITEMS],
     pub gain: [u64; MAX_BIDDERS],
     /// A bidder's weights by item, 0 for no edge.
     pub rows: [[u32; MAX_ITEMS]; MAX_BIDDERS],
@@ -51,10 +52,15 @@ impl Record {
             arrived: 0,
             price: [0; MAX_ITEMS],
             holder: [0; MAX_ITEMS],
-            withdrawn: [false; MAX_ITEMS],
+            withdrawn: [0; MAX_ITEMS],
             gain: [0; MAX_BIDDERS],
             rows: [[0; MAX_ITEMS]; MAX_BIDDERS],
         }
+    }
+
+    /// Whether an item, from 0, is withdrawn.
+    pub fn is_gone(&self, item: usize) -> bool {
+        self.withdrawn[item] != 0
     }
 
     /// The held edges as (bidder, item), both from 0.
@@ -86,6 +92,7 @@ fn within_limits(r: &Record) -> bool {
         && r.items <= MAX_ITEMS as u64
         && r.arrived <= MAX_BIDDERS as u64
         && r.slack.may_open()
+        && r.withdrawn.iter().all(|&gone| gone <= 1)
         && r.rows.iter().flatten().all(|&w| w as u64 <= MAX_WEIGHT)
 }
 
@@ -94,7 +101,7 @@ fn unused_are_zero(r: &Record) -> bool {
     let (items, arrived) = (r.items as usize, r.arrived as usize);
     r.price[items..].iter().all(|&y| y == 0)
         && r.holder[items..].iter().all(|&h| h == 0)
-        && r.withdrawn[items..].iter().all(|&gone| !gone)
+        && r.withdrawn[items..].iter().all(|&gone| gone == 0)
         && r.gain[arrived..].iter().all(|&g| g == 0)
         && r.rows.iter().all(|row| row[items..].iter().all(|&w| w == 0))
         && r.rows[arrived..].iter().flatten().all(|&w| w == 0)
@@ -104,7 +111,7 @@ fn unused_are_zero(r: &Record) -> bool {
 fn is_matching(r: &Record) -> bool {
     let mut placed = [false; MAX_BIDDERS];
     for (bidder, item) in r.pairs() {
-        if bidder >= r.arrived as usize || r.withdrawn[item] || r.rows[bidder][item] == 0 {
+        if bidder >= r.arrived as usize || r.is_gone(item) || r.rows[bidder][item] == 0 {
             return false;
         }
         if std::mem::replace(&mut placed[bidder], true) {
@@ -123,14 +130,14 @@ fn placed_are_tight(r: &Record) -> bool {
 fn unplaced_are_zero(r: &Record) -> bool {
     let mut placed = [false; MAX_BIDDERS];
     r.pairs().for_each(|(bidder, _)| placed[bidder] = true);
-    let free = |item: usize| r.holder[item] == 0 || r.withdrawn[item];
+    let free = |item: usize| r.holder[item] == 0 || r.is_gone(item);
     (0..MAX_ITEMS).all(|item| !free(item) || r.price[item] == 0)
         && (0..MAX_BIDDERS).all(|bidder| placed[bidder] || r.gain[bidder] == 0)
 }
 
 fn covered(r: &Record) -> bool {
     let Slack { p, q } = r.slack;
-    let live = |item: &usize| !r.withdrawn[*item];
+    let live = |item: &usize| !r.is_gone(*item);
     (0..r.arrived as usize).all(|bidder| {
         let mut items = (0..r.items as usize).filter(live);
         items.all(|item| r.pair_sum(bidder, item) >= r.scaled(q - p, bidder, item))
@@ -144,7 +151,7 @@ pub fn to_record(auction: &Auction) -> Record {
     r.arrived = auction.bidders.len() as u64;
     for (index, item) in auction.items.iter().enumerate() {
         r.price[index] = item.price;
-        r.withdrawn[index] = item.withdrawn;
+        r.withdrawn[index] = item.withdrawn as u8;
     }
     for (index, bidder) in auction.bidders.iter().enumerate() {
         r.gain[index] = bidder.gain;
@@ -163,7 +170,7 @@ pub fn from_record(r: &Record) -> Result<Auction, Refusal> {
     if !is_sound(r) {
         return refuse(SPOILT, 0);
     }
-    let item = |i: usize| Item { price: r.price[i], withdrawn: r.withdrawn[i] };
+    let item = |i: usize| Item { price: r.price[i], withdrawn: r.is_gone(i) };
     let mut auction = Auction {
         slack: r.slack,
         items: (0..r.items as usize).map(item).collect(),

@@ -2,7 +2,7 @@
 use mathlib.Core.Path.{sym, _∙_}
 use borrow.Author.Tests.{not-true, not-false}
 use Rattle.duality.specs.Lists.{cells}
-use Rattle.board.proofs.Tests.{within-decides}
+use Rattle.board.proofs.Tests.{within-decides, flag-on, flag-off}
 use Rattle.auction.proofs.EdgeVerdicts as verdict
 use borrow.Author.Needs.{needs}
 use Rattle.auction.proofs.edges.edge_verdict.Statement.{statement}
@@ -30,7 +30,7 @@ element-copy-out-if2 : tie.Need-element-copy-out-if2
 element-copy-out-if2 c = let h = within-decides _ _ .sound (sym (c .before .is-within .ensures) ∙ not-false _ (c .if1 .left)) in search needs
 
 returns-2 : tie.Need-returns-2
-returns-2 c = verdict.gone ((c .before .before .before .before .before .args .known)) (c .before .before .before .before .before .args .withdrawn .now) (cells (c .before .before .before .before .before .args .items .now)) (cells (c .before .before .before .before .before .args .weights .now)) (c .before .before .before .before .before .args .i) (sym (c .before .before .before .is-within .ensures) ∙ not-false _ (c .before .before .if1 .left)) (c .if2 .taken)
+returns-2 c = verdict.gone ((c .before .before .before .before .before .args .known)) (c .before .before .before .before .before .args .withdrawn .now) (cells (c .before .before .before .before .before .args .items .now)) (cells (c .before .before .before .before .before .args .weights .now)) (c .before .before .before .before .before .args .i) (sym (c .before .before .before .is-within .ensures) ∙ not-false _ (c .before .before .if1 .left)) (flag-on _ (c .if2 .taken))
 
 mul-is-within : tie.Need-mul-is-within
 mul-is-within c = search needs
@@ -42,16 +42,16 @@ is-within-requires-2 : tie.Need-is-within-requires-2
 is-within-requires-2 c κs = search needs
 
 returns-3 : tie.Need-returns-3
-returns-3 c = verdict.worth ((c .before .before .before .before .before .before .before .before .args .known)) (c .before .before .before .before .before .before .before .before .args .withdrawn .now) (cells (c .before .before .before .before .before .before .before .before .args .items .now)) (cells (c .before .before .before .before .before .before .before .before .args .weights .now)) (c .before .before .before .before .before .before .before .before .args .i) (sym (c .before .before .before .before .before .before .is-within .ensures) ∙ not-false _ (c .before .before .before .before .before .if1 .left)) (c .before .before .before .if2 .left) (sym (c .before .is-within2 .ensures) ∙ not-true _ (c .if3 .taken))
+returns-3 c = verdict.worth ((c .before .before .before .before .before .before .before .before .args .known)) (c .before .before .before .before .before .before .before .before .args .withdrawn .now) (cells (c .before .before .before .before .before .before .before .before .args .items .now)) (cells (c .before .before .before .before .before .before .before .before .args .weights .now)) (c .before .before .before .before .before .before .before .before .args .i) (sym (c .before .before .before .before .before .before .is-within .ensures) ∙ not-false _ (c .before .before .before .before .before .if1 .left)) (flag-off _ (c .before .before .before .if2 .left)) (sym (c .before .is-within2 .ensures) ∙ not-true _ (c .if3 .taken))
 
 is-unordered-requires : tie.Need-is-unordered-requires
 is-unordered-requires c κs = search needs
 
 returns-4 : tie.Need-returns-4
-returns-4 c = verdict.unordered ((c .before .before .before .before .before .before .before .before .before .before .args .known)) (c .before .before .before .before .before .before .before .before .before .before .args .withdrawn .now) (cells (c .before .before .before .before .before .before .before .before .before .before .args .items .now)) (cells (c .before .before .before .before .before .before .before .before .before .before .args .weights .now)) (c .before .before .before .before .before .before .before .before .before .before .args .i) (sym (c .before .before .before .before .before .before .before .before .is-within .ensures) ∙ not-false _ (c .before .before .before .before .before .before .before .if1 .left)) (c .before .before .before .before .before .if2 .left) (sym (c .before .before .before .is-within2 .ensures) ∙ not-false _ (c .before .before .if3 .left)) (sym (c .before .is-unordered .ensures) ∙ c .if4 .taken)
+returns-4 c = verdict.unordered ((c .before .before .before .before .before .before .before .before .before .before .args .known)) (c .before .before .before .before .before .before .before .before .before .before .args .withdrawn .now) (cells (c .before .before .before .before .before .before .before .before .before .before .args .items .now)) (cells (c .before .before .before .before .before .before .before .before .before .before .args .weights .now)) (c .before .before .before .before .before .before .before .before .before .before .args .i) (sym (c .before .before .before .before .before .before .before .before .is-within .ensures) ∙ not-false _ (c .before .before .before .before .before .before .before .if1 .left)) (flag-off _ (c .before .before .before .before .before .if2 .left)) (sym (c .before .before .before .is-within2 .ensures) ∙ not-false _ (c .before .before .if3 .left)) (sym (c .before .is-unordered .ensures) ∙ c .if4 .taken)
 
 returns-5 : tie.Need-returns-5
-returns-5 c = verdict.fine ((c .before .before .before .before .before .before .before .before .before .before .args .known)) (c .before .before .before .before .before .before .before .before .before .before .args .withdrawn .now) (cells (c .before .before .before .before .before .before .before .before .before .before .args .items .now)) (cells (c .before .before .before .before .before .before .before .before .before .before .args .weights .now)) (c .before .before .before .before .before .before .before .before .before .before .args .i) (sym (c .before .before .before .before .before .before .before .before .is-within .ensures) ∙ not-false _ (c .before .before .before .before .before .before .before .if1 .left)) (c .before .before .before .before .before .if2 .left) (sym (c .before .before .before .is-within2 .ensures) ∙ not-false _ (c .before .before .if3 .left)) (sym (c .before .is-unordered .ensures) ∙ c .if4 .left)
+returns-5 c = verdict.fine ((c .before .before .before .before .before .before .before .before .before .before .args .known)) (c .before .before .before .before .before .before .before .before .before .before .args .withdrawn .now) (cells (c .before .before .before .before .before .before .before .before .before .before .args .items .now)) (cells (c .before .before .before .before .before .before .before .before .before .before .args .weights .now)) (c .before .before .before .before .before .before .before .before .before .before .args .i) (sym (c .before .before .before .before .before .before .before .before .is-within .ensures) ∙ not-false _ (c .before .before .before .before .before .before .before .if1 .left)) (flag-off _ (c .before .before .before .before .before .if2 .left)) (sym (c .before .before .before .is-within2 .ensures) ∙ not-false _ (c .before .before .if3 .left)) (sym (c .before .is-unordered .ensures) ∙ c .if4 .left)
 
 pub edge-verdict-spec : {M : Type 1} → statement M
 edge-verdict-spec =

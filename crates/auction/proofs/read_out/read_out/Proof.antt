@@ -9,7 +9,7 @@ use Rattle.board.specs.Sound.{Sound}
 use Rattle.board.specs.Lent.{Lists, lists, Roomy, readOutChecks}
 use Rattle.board.proofs.Lending.{lent-open, holders-few, columns-written}
 use Rattle.auction.specs.declared.read_out.ReadOut.{ReadOut}
-use Rattle.auction.specs.ReadOut.{outcome, readOutBy}
+use Rattle.auction.specs.ReadOut.{outcome}
 use Rattle.auction.proofs.CallVerdicts.{read-out-by, read-out-written}
 use Rattle.auction.proofs.read_out.read_out.Statement.{statement}
 use Rattle.auction.proofs.read_out.read_out.Tie as tie

@@ -8,7 +8,7 @@ use Rattle.board.specs.Cells.{auction}
 use Rattle.board.specs.Ranges.{withinTest}
 use Rattle.board.specs.SoundTest.{soundTest}
 use Rattle.board.proofs.SoundLaw.{sound-decides}
-use Rattle.board.proofs.Tests.{within-decides}
+use Rattle.board.proofs.Tests.{within-decides, flag-on, flag-off}
 use Rattle.bidding.specs.Rule.{afterChain}
 use Rattle.auction.proofs.CallVerdicts.{withdraw-unknown, withdraw-gone, withdraw-served, withdrawal-done}
 use borrow.Author.Needs.{needs}
@@ -42,7 +42,7 @@ element-copy-out-if2 : tie.Need-element-copy-out-if2
 element-copy-out-if2 c = let h = within-decides _ _ .sound (known c) in let s = start c .pre .items in search needs
 
 returns-2 : tie.Need-returns-2
-returns-2 c = let e = c .before .before in sym (withdraw-gone (board (start e)) _ (sound (start e)) (known e) (c .if2 .taken))
+returns-2 c = let e = c .before .before in sym (withdraw-gone (board (start e)) _ (sound (start e)) (known e) (flag-on _ (c .if2 .taken)))
 
 release-requires : tie.Need-release-requires
 release-requires c κs = let e = c .before .before in let h = within-decides _ _ .sound (known e) in (start e .pre, omega arith)
@@ -52,7 +52,7 @@ returns-3 c =
     let moved = c .before .before in
     let here = moved .before in
     let e = here .before .before in
-    sym (withdraw-served (board (start e)) _ (sound (start e)) (known e) (here .if2 .left)
+    sym (withdraw-served (board (start e)) _ (sound (start e)) (known e) (flag-off _ (here .if2 .left))
     ∙ withdrawal-done _ (afterChain (auction (moved .release .result .market) (start e .args .weights .now) (moved .release .result .state)) (moved .release .result .bids)) (moved .release .ensures))
 
 pub withdraw-in-spec : {M : Type 1} → statement M

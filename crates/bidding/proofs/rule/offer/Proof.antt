@@ -1,6 +1,5 @@
 -- `rule::offer` meets its contract.
 use mathlib.Core.Path.{sym, _∙_}
-use native.Mathlib.Omega.{arith}
 use borrow.Author.Needs.{needs}
 use borrow.Author.Tests.{not-true, not-false, ltb-true, ltb-false}
 use Rattle.bidding.proofs.Offers.{offer-dear, offer-shut, offer-beaten, offer-taken}

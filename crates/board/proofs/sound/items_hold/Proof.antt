@@ -1,6 +1,6 @@
 -- `sound::items_hold` meets its contract: the items passed hold.
 use mathlib.Core.Path.{_≡_, sym, _∙_}
-use mathlib.Core.Bool.{true, false}
+use mathlib.Core.Bool.{true}
 use Prim.Native.Nat.{ℕ, _-_, _≤_, _<_}
 use native.Mathlib.Omega.{arith}
 use borrow.Author.Count.{below-more}
@@ -18,7 +18,7 @@ use Rattle.board.proofs.sound.items_hold.Tie as tie
 abbrev Inv-loop : tie.InvT-loop
 Inv-loop holder withdrawn items price k₀ k =
     (k ≤ maxItems) ×
-    ((j : ℕ) → j < k → itemTest (ltb j items) (scaledAt price j) (getD holder j 0) (getD withdrawn j false) ≡ true)
+    ((j : ℕ) → j < k → itemTest (ltb j items) (scaledAt price j) (getD holder j 0) (getD withdrawn j 0) ≡ true)
 
 abbrev μ-loop : tie.MeasureT-loop
 μ-loop holder withdrawn items price k₀ k = maxItems - k

@@ -1,18 +1,16 @@
 -- `sound::lacks_of` meets its contract: the list is filled from its start.
-use mathlib.Core.Bool.{false}
 use Prim.Native.Nat.{_-_, _≤_}
 use native.Mathlib.Omega.{arith}
 use borrow.Author.Needs.{needs}
-use lib.ListN.{getD}
 use Rattle.board.specs.Limits.{maxItems}
-use Rattle.board.specs.Cells.{scaledAt}
+use Rattle.board.specs.Cells.{scaledAt, flagAt}
 use Rattle.board.specs.SoundPass.{lackOf}
 use Rattle.board.proofs.Filling.{Filled, filled-none, filled-more}
 use Rattle.board.proofs.sound.lacks_of.Statement.{statement}
 use Rattle.board.proofs.sound.lacks_of.Tie as tie
 
 abbrev Inv-loop : tie.InvT-loop
-Inv-loop withdrawn price lack₀ k₀ lack k = (k ≤ maxItems) × Filled maxItems (λ j. lackOf (scaledAt price j) (getD withdrawn j false)) k lack
+Inv-loop withdrawn price lack₀ k₀ lack k = (k ≤ maxItems) × Filled maxItems (λ j. lackOf (scaledAt price j) (flagAt withdrawn j)) k lack
 
 abbrev μ-loop : tie.MeasureT-loop
 μ-loop withdrawn price lack₀ k₀ lack k = maxItems - k

@@ -50,8 +50,8 @@ element-copy-out-price-holds c = search needs
 price-holds-requires : tie.Need-price-holds-requires Inv-loop μ-loop
 price-holds-requires c κs = search needs
 
-add-t13 : tie.Need-add-t13 Inv-loop μ-loop
-add-t13 c = search needs
+add-t14 : tie.Need-add-t14 Inv-loop μ-loop
+add-t14 c = search needs
 
 returns : tie.Need-returns Inv-loop μ-loop
 returns c =
@@ -83,7 +83,7 @@ prices-verdict-spec =
     shared-slice-read-price-holds
     element-copy-out-price-holds
     price-holds-requires
-    add-t13
+    add-t14
     returns
     add-k
     loop-less

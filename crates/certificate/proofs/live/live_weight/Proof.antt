@@ -3,6 +3,7 @@ use mathlib.Core.Path.{_∙_, sym}
 use native.Mathlib.Omega.{arith}
 use Rattle.board.proofs.SoundLaw.{live-on}
 use Rattle.board.proofs.Filed.{row-cell}
+use Rattle.board.proofs.Tests.{flag-on, flag-off}
 use borrow.Author.Needs.{needs}
 use Rattle.certificate.proofs.live.live_weight.Statement.{statement}
 use Rattle.certificate.proofs.live.live_weight.Tie as tie
@@ -26,13 +27,13 @@ element-copy-out-if1 : tie.Need-element-copy-out-if1
 element-copy-out-if1 c = search needs
 
 returns : tie.Need-returns
-returns c = (rw (c .if1 .taken), omega arith)
+returns c = (rw (flag-on _ (c .if1 .taken)), omega arith)
 
 returns-2 : tie.Need-returns-2
 returns-2 c =
     let a = c .before .before .before .before .args in
     let cell = row-cell (a .weights .now) (a .bidder) (a .item) (c .before .before .before .before .pre .1) in
-    (c .before .before .weight-in .ensures .0 ∙ sym (live-on _ _ (c .if1 .left) ∙ cell), c .before .before .weight-in .ensures .1)
+    (c .before .before .weight-in .ensures .0 ∙ sym (live-on _ _ (flag-off _ (c .if1 .left)) ∙ cell), c .before .before .weight-in .ensures .1)
 
 pub live-weight-spec : {M : Type 1} → statement M
 live-weight-spec =

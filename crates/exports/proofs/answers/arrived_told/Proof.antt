@@ -1,6 +1,6 @@
 -- `answers::arrived_told` meets its contract.
 use mathlib.Core.Path.{sym, ap, _∙_}
-use Rattle.exports.specs.Answers.{arrivedTold}
+use Rattle.auction.specs.Arrive.{arrivedTold}
 use borrow.Author.Needs.{needs}
 use Rattle.exports.proofs.answers.arrived_told.Statement.{statement}
 use Rattle.exports.proofs.answers.arrived_told.Tie as tie

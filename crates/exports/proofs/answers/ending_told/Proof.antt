@@ -1,6 +1,6 @@
 -- `answers::ending_told` meets its contract.
 use mathlib.Core.Path.{sym, ap, _∙_}
-use Rattle.exports.specs.Answers.{endingTold}
+use Rattle.replay.specs.TextDemand1.{endingTold}
 use borrow.Author.Needs.{needs}
 use Rattle.exports.proofs.answers.ending_told.Statement.{statement}
 use Rattle.exports.proofs.answers.ending_told.Tie as tie

@@ -1,6 +1,6 @@
 -- `answers::exact_told` meets its contract.
 use mathlib.Core.Path.{sym, ap, _∙_}
-use Rattle.exports.specs.Answers.{exactTold}
+use Rattle.hungarian.specs.Exact.{exactTold}
 use borrow.Author.Needs.{needs}
 use Rattle.exports.proofs.answers.exact_told.Statement.{statement}
 use Rattle.exports.proofs.answers.exact_told.Tie as tie

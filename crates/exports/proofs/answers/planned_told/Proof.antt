@@ -1,6 +1,6 @@
 -- `answers::planned_told` meets its contract.
 use mathlib.Core.Path.{sym, ap, _∙_}
-use Rattle.exports.specs.Answers.{plannedTold}
+use Rattle.history.specs.Demand1.{plannedTold}
 use borrow.Author.Needs.{needs}
 use Rattle.exports.proofs.answers.planned_told.Statement.{statement}
 use Rattle.exports.proofs.answers.planned_told.Tie as tie

@@ -1,6 +1,6 @@
 -- `answers::read_out_told` meets its contract.
 use mathlib.Core.Path.{sym, ap, _∙_}
-use Rattle.exports.specs.Answers.{readOutTold}
+use Rattle.auction.specs.ReadOut.{readOutTold}
 use borrow.Author.Needs.{needs}
 use Rattle.exports.proofs.answers.read_out_told.Statement.{statement}
 use Rattle.exports.proofs.answers.read_out_told.Tie as tie

@@ -1,6 +1,6 @@
 -- `answers::stopping` meets its contract.
 use mathlib.Core.Path.{ap}
-use Rattle.exports.specs.Answers.{told}
+use Rattle.refusals.specs.Told.{told}
 use borrow.Author.Needs.{needs}
 use Rattle.exports.proofs.answers.stopping.Statement.{statement}
 use Rattle.exports.proofs.answers.stopping.Tie as tie

@@ -1,6 +1,6 @@
 -- `answers::withdrawn_told` meets its contract.
 use mathlib.Core.Path.{sym, ap, _∙_}
-use Rattle.exports.specs.Answers.{withdrawnTold}
+use Rattle.auction.specs.Withdraw.{withdrawnTold}
 use borrow.Author.Needs.{needs}
 use Rattle.exports.proofs.answers.withdrawn_told.Statement.{statement}
 use Rattle.exports.proofs.answers.withdrawn_told.Tie as tie

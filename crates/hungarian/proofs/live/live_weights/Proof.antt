@@ -4,6 +4,7 @@ use Prim.Native.Nat.{_-_, _≤_}
 use native.Mathlib.Omega.{arith}
 use borrow.Author.Needs.{needs}
 use Rattle.board.specs.Limits.{maxItems}
+use Rattle.board.proofs.Tests.{flag-on, flag-off}
 use Rattle.hungarian.specs.LiveWeights.{LiveTo}
 use Rattle.hungarian.proofs.LiveWeights.{live-none, live-kept, live-cleared, live-all}
 use Rattle.hungarian.proofs.live.live_weights.Statement.{statement}
@@ -42,8 +43,8 @@ loop-again c =
     let l = c .before .before .loop .inv .1 in (
       omega arith,
       ⊎-elim
-          (λ w. rw (w .3) (live-cleared near l _ (w .0 .taken) (w .2 .ensures)))
-          (λ w. rw (w .1) (live-kept near l (w .0 .left)))
+          (λ w. rw (w .3) (live-cleared near l _ (flag-on _ (w .0 .taken)) (w .2 .ensures)))
+          (λ w. rw (w .1) (live-kept near l (flag-off _ (w .0 .left))))
           (c .if1 .came),
     )
 

@@ -1,5 +1,6 @@
 -- `line::keep` meets its contract: a `set` past the end changes nothing. Assumes nothing.
 use mathlib.Core.Path.{sym}
+use native.Mathlib.Omega.{arith}
 use lib.Seq.{set-out}
 use borrow.Author.Needs.{needs}
 use Rattle.text.proofs.line.keep.Statement.{statement}
@@ -8,17 +9,17 @@ use Rattle.text.proofs.line.keep.Tie as tie
 mul-numbers : tie.Need-mul-numbers
 mul-numbers c = search needs
 
-slice-write-numbers : tie.Need-slice-write-numbers
-slice-write-numbers c = search needs
-
-same-length : tie.Need-same-length
-same-length c = search needs
+element-write-numbers : tie.Need-element-write-numbers
+element-write-numbers c = search needs
 
 returns : tie.Need-returns
 returns c = search needs
 
 returns-2 : tie.Need-returns-2
-returns-2 c = let a = c .before .args in sym (set-out (a .numbers .now) (a .i) (a .number) (c .if1 .left))
+returns-2 c =
+    let b = c .before in
+    let a = b .args in
+    sym (set-out (a .numbers .now) (a .i) (a .number) (omega (arith, b .pre, c .if1 .left)))
 
 pub keep-spec : {M : Type 1} → statement M
-keep-spec = tie.close (tie.spec mul-numbers slice-write-numbers same-length returns returns-2)
+keep-spec = tie.close (tie.spec mul-numbers element-write-numbers returns returns-2)

@@ -1,4 +1,4 @@
--- `reader::Reader::current` meets its contract: a walk by hand. The struct is taken apart, and `field_at` is called on the slice and the position.
+-- `reader::Reader::current` meets its contract: a walk by hand. The struct is taken apart, and `tabbed_at` is called on the slice and the position.
 -- Assumes nothing.
 use lib.ListN.{length}
 use mathlib.Core.Path.{_≡_}
@@ -10,13 +10,13 @@ use Rattle.walks.proofs.Walks.{WpFn, Atoms, FmC, Fun, givenOf, Given, ‵, raw,
 use Rattle.walks.proofs.Walks.{of-opd, and-then, no-more, assigns, land, returns, enter, params1, pass1, pass0, free0, owns, Triple, alive, onEntry}
 use Rattle.walks.proofs.Walks.{cited, Clauses, Memory, now, sliceVal, truly, Walk, leaves, meets, makes-locals, here, loc, dot, gone, twice}
 use Rattle.walks.proofs.Walks.{Ask, calls}
-use Rattle.text.specs.Number.{fieldAt}
+use Rattle.text.specs.Reader.{tabbedAt}
 use Rattle.text.specs.declared.reader.Reader.{Reader}
 use Rattle.text.proofs.Readers.{reader, reader-type, reader-laws, reader-copy, field-typed}
 use Rattle.text.proofs.reader.Reader.Laws as R′
-use Rattle.text.proofs.scan.field_at as scan
-use Rattle.text.proofs.scan.field_at.Symbol as scan-def
-use Rattle.text.proofs.scan.field_at.Met as scan-thm
+use Rattle.text.proofs.scan.tabbed_at as scan
+use Rattle.text.proofs.scan.tabbed_at.Symbol as scan-def
+use Rattle.text.proofs.scan.tabbed_at.Met as scan-thm
 use Rattle.text.proofs.reader.Reader.current.Key.{name}
 use Rattle.text.proofs.reader.Reader.current as current
 use Rattle.text.proofs.reader.Reader.current.Statement as stated
@@ -52,7 +52,7 @@ module _ {M : Type 1} (𝓤 : URA M) (H : Heap 𝓤) (A : Atoms 𝓤) (W : Given
       move ! (9 ∷ []) $ fsplit ! $ twice ! (reader κ) (reader-copy κ 𝓤 H A W) r (u ∷ []) $
       use1 W (given (u ∷ [] ≡ u ∷ []) (‵ (all-own (reader-type κ .parts) (reader-laws κ) (r .text, (r .at, tt))))) (own-open 𝓤 H A W (reader-type κ) (reader-laws κ) (r .text, (r .at, tt)) u) $ learn ! (λ _. move ! (0 ∷ 11 ∷ 1 ∷ 2 ∷ []) $
       -- [what the parameters own; the token; what the reader owns; true; _3 at 4; …; _2 at 6; …; _1 at 8; …; _0 at 10; …]
-      calls ! fm scan.ended (scan.clauses 𝓤 H A mem run) known to (id⊢ 𝓤 _) (λ f. f ≡ fieldAt (now (r .text)) (r .at)) (λ f ws. id⊢ 𝓤 _) (and-then ! (loc ! 6 refl) (and-then ! (loc ! 4 refl) (no-more !))) (λ w f e is.
+      calls ! fm scan.ended (scan.clauses 𝓤 H A mem run) known to (id⊢ 𝓤 _) (λ f. f ≡ tabbedAt (now (r .text)) (r .at)) (λ f ws. id⊢ 𝓤 _) (and-then ! (loc ! 6 refl) (and-then ! (loc ! 4 refl) (no-more !))) (λ w f e is.
       land ! (here !) (init ! 10 refl (field-typed 𝓤 H A W f w is)) $
       returns ! (look ! 10 refl) $ gone ! 10 refl refl $ gone ! 8 refl refl $ gone ! 6 refl refl $ gone ! 4 refl refl $ free0 ! $
       -- [the result; the token; what the reader owns; true]
@@ -64,5 +64,5 @@ current-spec 𝓤 H 𝓜 𝓖 𝓡 =
     meets 𝓤 H 𝓜 𝓖 𝓡 current.ended (current.clauses 𝓤 H (𝓖 .A) (𝓜 .mem) (𝓡 .run)) code.env (λ κs x f. refl, tt) name code.function (code.unfolded 𝓤 H 𝓜 𝓡)
     (λ κs. (LL.vals (reader-type (κs .0)) (reader-laws (κs .0)), tt)) (λ κs. (LL.tells (reader-type (κs .0)) (reader-laws (κs .0)), tt))
     (λ fm κs qs bounds a g are. walk 𝓤 H (𝓖 .A) (givenOf 𝓤 H 𝓜 𝓖) (𝓜 .mem) (𝓡 .run) (κs .0) (qs .0) (a .0) _ _ fm
-    (cited 𝓤 H _ 𝓜 𝓡 code.env scan-def.name scan-def.routine code.calls-text·scan·field-at (scan-thm.met 𝓤 H 𝓜 𝓖 𝓡))
+    (cited 𝓤 H _ 𝓜 𝓡 code.env scan-def.name scan-def.routine code.calls-text·scan·tabbed-at (scan-thm.met 𝓤 H 𝓜 𝓖 𝓡))
     (LL.lawful (reader-type (κs .0)) (reader-laws (κs .0)) 𝓤 H (𝓖 .A) (givenOf 𝓤 H 𝓜 𝓖) .typed (a .0) _ (are .0) .0))

@@ -1,0 +1,276 @@
+/*
+ * The proved calls, for C11 and C++11: the functions of the crate `exports`, which stand in
+ * target/staticlib/libexports.a once `rt staticlib exports` has made it (x86-64).
+ *
+ * Names are the field's: document 01's kettle is an item here, its batch a bidder, its entry an
+ * edge, its worth a weight, its plan a matching. What is between quotation marks below is
+ * document 01's. Weights are whole pence; prices and gains are q-ths of a penny, where nothing
+ * else is said. Items and bidders are numbered from 1.
+ *
+ * What a call answers. Number 0 says that the call served; its place is 0, and its value is said
+ * at each call. Any other number is a refusal's:
+ *
+ *   number  word       place                              met when
+ *    1      "count"    0                                  "kettles to open not 1 to 64"
+ *    2      "slack"    0                                  "p or q outside its range"
+ *    3      "full"     0                                  "128 batches have arrived"
+ *    4      "unknown"  "entry, else 0"                    "kettle not 1 to k"
+ *    5      "gone"     "entry, else 0"                    "kettle withdrawn"
+ *    6      "worth"    "entry"                            "not 1 to 1,000,000"
+ *    7      "order"    "entry"                            "kettle not above the entry before"
+ *    8      "short"    0                                  "a list to be written has too few cells"
+ *    9      "uneven"   0                                  "a list to be checked has another length"
+ *   10      "clash"    "batch"                            "cell neither 0 nor a kettle's number, or its
+ *                                                          kettle gone, without entry for this batch, or
+ *                                                          named by an earlier batch"
+ *   11      "price"    "kettle, or k + batch for a gain"  "above 1,000,000,000, or a withdrawn kettle's
+ *                                                          not 0"
+ *   12      "bare"     "batch"                            "a live entry not covered"
+ *   13      "spoilt"   0                                  "the board handed in is not sound"
+ *   14      "line"     "line"                             "text not of the form below"
+ *   15      "long"     0                                  "text above 65,536 bytes"
+ *
+ * Edges count from 1 in their list. Of a text every refusal but 8 and 15 has its line as place.
+ * A refused call hands the board back as it was, and leaves every lent list as it was. Where
+ * several are met, the first in the order given at the call is answered.
+ *
+ * How a list crosses: as a pointer to its first cell and the number of its cells, two arguments
+ * side by side. No call takes a pointer without a number. Boards and answers cross by value.
+ *
+ * What a caller owes: that each pointer is to so many cells, which hold something and live
+ * through the call (a list of 0 cells may have any pointer, NULL too); that a list to be written
+ * overlaps no other list of the call; and a board that was set, by a call or with zeros. Nothing
+ * else: whatever numbers, texts, lists and boards may hold, the answer is the one given here. A
+ * board that is not sound, such as one of zeros, is 13.
+ */
+#ifndef NOUGHTELM_H
+#define NOUGHTELM_H
+
+#include <stdbool.h>
+#include <stddef.h>
+#include <stdint.h>
+
+#define NOUGHTELM_MAX_ITEMS 64
+#define NOUGHTELM_MAX_BIDDERS 128
+/* One more edge than there are items: so many decide every refusal of an arrival. */
+#define NOUGHTELM_MAX_EDGES 65
+#define NOUGHTELM_MAX_WEIGHT 1000000
+#define NOUGHTELM_MAX_Q 1000
+/* The most that a price or a gain may be that is handed to the check. */
+#define NOUGHTELM_MAX_PRICE 1000000000
+/* The most bytes of a text, and of what is printed of one: a list of so many is never short. */
+#define NOUGHTELM_MAX_TEXT 65536
+#define NOUGHTELM_MAX_OUTPUT 12610
+
+#ifdef __cplusplus
+#define NOUGHTELM_HOLDS(fact) static_assert(fact, #fact)
+extern "C" {
+#else
+#define NOUGHTELM_HOLDS(fact) _Static_assert(fact, #fact)
+#endif
+
+/* ---- The board */
+
+/* The slack p/q. */
+typedef struct noughtelm_slack {
+    uint64_t p;
+    uint64_t q;
+} noughtelm_slack;
+
+/* What the bids are made in. */
+typedef struct noughtelm_market {
+    uint64_t items;
+    noughtelm_slack slack;
+    uint64_t arrived;                       /* bidders */
+    uint8_t withdrawn[NOUGHTELM_MAX_ITEMS]; /* 1 where the item is withdrawn, else 0 */
+} noughtelm_market;
+
+/* What bids change. */
+typedef struct noughtelm_state {
+    uint64_t price[NOUGHTELM_MAX_ITEMS];
+    uint8_t holder[NOUGHTELM_MAX_ITEMS]; /* the number of the bidder that holds the item, or 0 */
+    uint64_t gain[NOUGHTELM_MAX_BIDDERS];
+} noughtelm_state;
+
+typedef struct noughtelm_auction {
+    noughtelm_market market;
+    noughtelm_state state;
+    /* Bidder i + 1's edge at item k + 1 is cell 64 * i + k: its weight, 0 where there is none. */
+    uint32_t weights[NOUGHTELM_MAX_BIDDERS * NOUGHTELM_MAX_ITEMS];
+} noughtelm_auction;
+
+/* An item's number and a weight. */
+typedef struct noughtelm_edge {
+    uint64_t item;
+    uint64_t weight;
+} noughtelm_edge;
+
+/* Edges as two lists side by side. The first `count` are meant, and 65 at most. */
+typedef struct noughtelm_edge_buffer {
+    uint64_t items[NOUGHTELM_MAX_EDGES];
+    uint64_t weights[NOUGHTELM_MAX_EDGES];
+    uint64_t count;
+} noughtelm_edge_buffer;
+
+/* ---- Answers */
+
+typedef struct noughtelm_told {
+    uint64_t number;
+    uint64_t place;
+    uint64_t value; /* 0 of a refused call */
+} noughtelm_told;
+
+/* The same beside a board. */
+typedef struct noughtelm_answer {
+    noughtelm_auction board;
+    uint64_t number;
+    uint64_t place;
+    uint64_t value; /* 0 of a refused call, other than a replay */
+} noughtelm_answer;
+
+/* The answer of the check. */
+typedef struct noughtelm_totals {
+    uint64_t number;
+    uint64_t place;
+    uint64_t weight; /* of the matching; 0 of a refused call */
+    uint64_t total;  /* of the prices and gains; 0 of a refused call */
+} noughtelm_totals;
+
+/* ---- Calls that make a board, change it and read it */
+
+/*
+ * A board of so many items with slack p/q, 1 <= p < q <= 1000. Refusals: 1, 2; the board is then
+ * all zeros. The value is 0.
+ */
+noughtelm_answer noughtelm_open(uint64_t items, uint64_t p, uint64_t q);
+
+/*
+ * A new bidder arrives with a list of edges, of strictly rising items; the list may be empty.
+ * Refusals: 13, 3, then edge by edge 4, 5, 6, 7. The value is the number of bids.
+ */
+noughtelm_answer noughtelm_arrive(noughtelm_auction board, const noughtelm_edge *edges,
+                                  size_t edges_len);
+
+/* The same with the edges of a buffer. */
+noughtelm_answer noughtelm_arrive_buffer(noughtelm_auction board, noughtelm_edge_buffer buffer);
+
+/*
+ * An item is withdrawn. Refusals: 13, 4, 5, with place 0. The value is the number of bids.
+ */
+noughtelm_answer noughtelm_withdraw(noughtelm_auction board, uint64_t item);
+
+/* Whether a board is sound. */
+bool noughtelm_is_sound(noughtelm_auction board);
+
+/*
+ * Writes the matching (an item's number, 0 for none), the prices and the gains: a cell for each
+ * bidder that has arrived, each item, each bidder. Further cells are kept. Refusals: 13, 8. The
+ * value is 0.
+ */
+noughtelm_told noughtelm_read_out(noughtelm_auction board, uint64_t *plan, size_t plan_len,
+                                  uint64_t *prices, size_t prices_len, uint64_t *gains,
+                                  size_t gains_len);
+
+/* ---- The exact level, and the check */
+
+/*
+ * Writes a matching of greatest weight, and prices and gains in whole pence that cover the live
+ * edges and have that weight as their sum, withdrawn items at 0; cells as for a read-out.
+ * Refusals: 13, 8. The value is the greatest weight.
+ */
+noughtelm_told noughtelm_exact(noughtelm_auction board, uint64_t *plan, size_t plan_len,
+                               uint64_t *prices, size_t prices_len, uint64_t *gains,
+                               size_t gains_len);
+
+/*
+ * Checks a matching, prices and gains, of exactly so many cells, against the board's live edges
+ * at a slack p/q, 0 <= p < q <= 1000: 0/1 for prices and gains in whole pence. The lists are
+ * only read. Refusals: 13, 2, 9, 10, 11, 12, lowest place first.
+ */
+noughtelm_totals noughtelm_check(noughtelm_auction board, const uint64_t *plan, size_t plan_len,
+                                 const uint64_t *prices, size_t prices_len, const uint64_t *gains,
+                                 size_t gains_len, uint64_t p, uint64_t q);
+
+/* ---- Calls on a history text */
+
+/*
+ * Replays a text. The board is the one after its last line, or before its refused line (all
+ * zeros, where no board was opened). Refusals: 15, then line by line 14 and those of the line's
+ * call, with the line as place. The value is the number of bids in all, of a refused text those
+ * before that line.
+ */
+noughtelm_answer noughtelm_replay(const uint8_t *text, size_t text_len);
+
+/*
+ * Replays a text and writes its plan, the lines `P`, `Y`, `T` and `E`. Further cells are kept.
+ * Refusals: those of the replay, then 8. The value is the number of bytes written.
+ */
+noughtelm_told noughtelm_plan_text(const uint8_t *text, size_t text_len, uint8_t *out,
+                                   size_t out_len);
+
+/*
+ * Writes the line that a refused text prints: `R`, number, line. Any numbers will do. Further
+ * cells are kept. Refusal: 8. The value is the number of bytes written.
+ */
+noughtelm_told noughtelm_refusal_line(uint64_t number, uint64_t line, uint8_t *out,
+                                      size_t out_len);
+
+/*
+ * Replays a text and writes what the program prints of it: its plan, or the line of its refusal.
+ * Further cells are kept. Refusal: 8. The value is the number of bytes written.
+ */
+noughtelm_told noughtelm_sheet_text(const uint8_t *text, size_t text_len, uint8_t *out,
+                                    size_t out_len);
+
+/* ---- The layout that the library has */
+
+NOUGHTELM_HOLDS(sizeof(size_t) == 8);
+NOUGHTELM_HOLDS(sizeof(bool) == 1);
+
+NOUGHTELM_HOLDS(sizeof(noughtelm_slack) == 16);
+NOUGHTELM_HOLDS(offsetof(noughtelm_slack, q) == 8);
+
+NOUGHTELM_HOLDS(sizeof(noughtelm_market) == 96);
+NOUGHTELM_HOLDS(offsetof(noughtelm_market, items) == 0);
+NOUGHTELM_HOLDS(offsetof(noughtelm_market, slack) == 8);
+NOUGHTELM_HOLDS(offsetof(noughtelm_market, arrived) == 24);
+NOUGHTELM_HOLDS(offsetof(noughtelm_market, withdrawn) == 32);
+
+NOUGHTELM_HOLDS(sizeof(noughtelm_state) == 1600);
+NOUGHTELM_HOLDS(offsetof(noughtelm_state, price) == 0);
+NOUGHTELM_HOLDS(offsetof(noughtelm_state, holder) == 512);
+NOUGHTELM_HOLDS(offsetof(noughtelm_state, gain) == 576);
+
+NOUGHTELM_HOLDS(sizeof(noughtelm_auction) == 34464);
+NOUGHTELM_HOLDS(offsetof(noughtelm_auction, market) == 0);
+NOUGHTELM_HOLDS(offsetof(noughtelm_auction, state) == 96);
+NOUGHTELM_HOLDS(offsetof(noughtelm_auction, weights) == 1696);
+
+NOUGHTELM_HOLDS(sizeof(noughtelm_edge) == 16);
+NOUGHTELM_HOLDS(offsetof(noughtelm_edge, weight) == 8);
+
+NOUGHTELM_HOLDS(sizeof(noughtelm_edge_buffer) == 1048);
+NOUGHTELM_HOLDS(offsetof(noughtelm_edge_buffer, weights) == 520);
+NOUGHTELM_HOLDS(offsetof(noughtelm_edge_buffer, count) == 1040);
+
+NOUGHTELM_HOLDS(sizeof(noughtelm_told) == 24);
+NOUGHTELM_HOLDS(offsetof(noughtelm_told, place) == 8);
+NOUGHTELM_HOLDS(offsetof(noughtelm_told, value) == 16);
+
+NOUGHTELM_HOLDS(sizeof(noughtelm_answer) == 34488);
+NOUGHTELM_HOLDS(offsetof(noughtelm_answer, board) == 0);
+NOUGHTELM_HOLDS(offsetof(noughtelm_answer, number) == 34464);
+NOUGHTELM_HOLDS(offsetof(noughtelm_answer, place) == 34472);
+NOUGHTELM_HOLDS(offsetof(noughtelm_answer, value) == 34480);
+
+NOUGHTELM_HOLDS(sizeof(noughtelm_totals) == 32);
+NOUGHTELM_HOLDS(offsetof(noughtelm_totals, place) == 8);
+NOUGHTELM_HOLDS(offsetof(noughtelm_totals, weight) == 16);
+NOUGHTELM_HOLDS(offsetof(noughtelm_totals, total) == 24);
+
+#ifdef __cplusplus
+}
+#endif
+#undef NOUGHTELM_HOLDS
+
+#endif

@@ -1,0 +1,100 @@
+/* What the programs in this folder share: a count of checks, and the text of case 1. */
+#ifndef CHECKS_H
+#define CHECKS_H
+
+#include "noughtelm.h"
+#include <inttypes.h>
+#include <stdio.h>
+#include <string.h>
+
+static unsigned passed, failed;
+
+static inline void holds(const char *what, bool so)
+{
+    if (so) {
+        passed++;
+    } else {
+        failed++;
+        printf("%s: does not hold\n", what);
+    }
+}
+
+static inline void number_is(const char *what, uint64_t got, uint64_t expected)
+{
+    if (got == expected) {
+        passed++;
+    } else {
+        failed++;
+        printf("%s: %" PRIu64 ", expected %" PRIu64 "\n", what, got, expected);
+    }
+}
+
+/* So many cells of two lists are the same. */
+static inline void cells_are(const char *what, const uint64_t *got, const uint64_t *expected,
+                             size_t count)
+{
+    for (size_t i = 0; i < count; i++) {
+        number_is(what, got[i], expected[i]);
+    }
+}
+
+static inline void bytes_are(const char *what, const void *got, const void *expected, size_t count)
+{
+    holds(what, memcmp(got, expected, count) == 0);
+}
+
+/* Every byte of two boards is the same; there is nothing between the fields. */
+static inline void board_is(const char *what, const noughtelm_auction *got,
+                            const noughtelm_auction *expected)
+{
+    bytes_are(what, got, expected, sizeof *got);
+}
+
+static inline void told_is(const char *what, noughtelm_told got, uint64_t number, uint64_t place,
+                           uint64_t value)
+{
+    number_is(what, got.number, number);
+    number_is(what, got.place, place);
+    number_is(what, got.value, value);
+}
+
+static inline noughtelm_told told_of(const noughtelm_answer *answer)
+{
+    noughtelm_told told = {answer->number, answer->place, answer->value};
+    return told;
+}
+
+static inline void totals_are(const char *what, noughtelm_totals got, uint64_t number,
+                              uint64_t place, uint64_t weight, uint64_t total)
+{
+    number_is(what, got.number, number);
+    number_is(what, got.place, place);
+    number_is(what, got.weight, weight);
+    number_is(what, got.total, total);
+}
+
+/* The last line, and the program's status: 0 where something was checked and nothing failed. */
+static inline int all_checks(void)
+{
+    printf("%u passed, %u failed\n", passed, failed);
+    return failed > 0 || passed == 0;
+}
+
+/* Document 01's text, and what is printed of it. */
+#define CASE_1 "K\t2\t1\t10\nA\t1\t100\t2\t60\nA\t1\t90\n"
+#define PRINTED_1 "P\t1\t2\t600\nP\t2\t1\t420\nY\t1\t570\nY\t2\t60\nT\t150\t1650\t7\nE\t150\n"
+
+/* The bytes of a string, without the 0 at its end: a list and its number of cells. */
+#define TEXT(string) (const uint8_t *)(string), sizeof(string) - 1
+
+/* The board of case 1, by calls. */
+static inline noughtelm_auction case_1(void)
+{
+    const noughtelm_edge first[] = {{1, 100}, {2, 60}};
+    const noughtelm_edge second[] = {{1, 90}};
+    noughtelm_auction board = noughtelm_open(2, 1, 10).board;
+    board = noughtelm_arrive(board, first, 2).board;
+    return noughtelm_arrive(board, second, 1).board;
+}
+
+#endif

@@ -1,0 +1,146 @@
+/* Each refusal of noughtelm.h's table, with its place; board and lists are kept. */
+#include "checks.h"
+
+static void opening(void)
+{
+    const uint64_t counts[] = {0, 65, UINT64_MAX};
+    const uint64_t slacks[][2] = {{0, 10}, {5, 5}, {1, 1001}, {UINT64_MAX, UINT64_MAX}};
+    const noughtelm_auction zeros = {{0, {0, 0}, 0, {0}}, {{0}, {0}, {0}}, {0}};
+    for (int i = 0; i < 3; i++) {
+        const noughtelm_answer answer = noughtelm_open(counts[i], 5, 5);
+        told_is("1", told_of(&answer), 1, 0, 0);
+        board_is("1, the board", &answer.board, &zeros);
+    }
+    for (int i = 0; i < 4; i++) {
+        const noughtelm_answer answer = noughtelm_open(1, slacks[i][0], slacks[i][1]);
+        told_is("2", told_of(&answer), 2, 0, 0);
+        board_is("2, the board", &answer.board, &zeros);
+    }
+    const noughtelm_answer answer = noughtelm_arrive(zeros, NULL, 0);
+    told_is("13, zeros", told_of(&answer), 13, 0, 0);
+    board_is("13, zeros, the board", &answer.board, &zeros);
+    holds("13, zeros", !noughtelm_is_sound(zeros));
+}
+
+/* An arrival with these edges on the board of case 1 with item 2 withdrawn. */
+static void arrival(const char *what, const noughtelm_edge *edges, size_t count, uint64_t number,
+                    uint64_t place)
+{
+    const noughtelm_auction board = noughtelm_withdraw(case_1(), 2).board;
+    const noughtelm_answer answer = noughtelm_arrive(board, edges, count);
+    told_is(what, told_of(&answer), number, place, 0);
+    board_is(what, &answer.board, &board);
+}
+
+static void arrivals(void)
+{
+    const noughtelm_edge unknown[] = {{1, 5}, {3, 0}}, nothing[] = {{0, 5}};
+    const noughtelm_edge gone[] = {{1, 5}, {2, 0}}, worth[] = {{1, 1000001}}, free_of_charge[] = {{1, 0}};
+    const noughtelm_edge order[] = {{1, 1000000}, {1, 5}};
+    arrival("4", unknown, 2, 4, 2);
+    arrival("4 at 1", nothing, 1, 4, 1);
+    arrival("5", gone, 2, 5, 2);
+    arrival("6", worth, 1, 6, 1);
+    arrival("6 of 0", free_of_charge, 1, 6, 1);
+    arrival("7", order, 2, 7, 2);
+}
+
+static void withdrawals(void)
+{
+    const noughtelm_auction board = noughtelm_withdraw(case_1(), 1).board;
+    const uint64_t items[] = {0, 3, UINT64_MAX, 1};
+    const uint64_t numbers[] = {4, 4, 4, 5};
+    for (int i = 0; i < 4; i++) {
+        const noughtelm_answer answer = noughtelm_withdraw(board, items[i]);
+        told_is("withdrawal", told_of(&answer), numbers[i], 0, 0);
+        board_is("withdrawal, the board", &answer.board, &board);
+    }
+}
+
+/* 128 bidders arrive; the next is 3, whatever its edges. */
+static void full(void)
+{
+    const noughtelm_edge unknown[] = {{9, 5}};
+    noughtelm_answer answer = noughtelm_open(1, 1, 2);
+    for (int i = 0; i < NOUGHTELM_MAX_BIDDERS; i++) {
+        answer = noughtelm_arrive(answer.board, NULL, 0);
+        told_is("an empty arrival", told_of(&answer), 0, 0, 0);
+    }
+    const noughtelm_answer more = noughtelm_arrive(answer.board, unknown, 1);
+    told_is("3", told_of(&more), 3, 0, 0);
+    board_is("3, the board", &more.board, &answer.board);
+}
+
+/* A check of case 1 at 0/1 with one list changed. */
+static void claim(const char *what, const uint64_t *lists, uint64_t number, uint64_t place)
+{
+    totals_are(what, noughtelm_check(case_1(), lists, 2, lists + 2, 2, lists + 4, 2, 0, 1), number,
+               place, 0, 0);
+}
+
+static void checks(void)
+{
+    const noughtelm_auction board = case_1();
+    const noughtelm_auction gone = noughtelm_withdraw(board, 1).board;
+    const uint64_t right[] = {2, 1, 40, 0, 60, 50};
+    const uint64_t unknown[] = {3, 1, 40, 0, 60, 50}, twice[] = {1, 1, 40, 0, 60, 50};
+    const uint64_t edgeless[] = {0, 2, 40, 0, 60, 50};
+    const uint64_t high[] = {2, 1, 40, 1000000001, 60, 50}, gain[] = {2, 1, 40, 0, 60, 1000000001};
+    const uint64_t bare[] = {2, 1, 40, 0, 60, 49}, left[] = {2, 0, 1, 0, 60, 0};
+    claim("10", unknown, 10, 1);
+    claim("10, named before", twice, 10, 2);
+    claim("10, no edge", edgeless, 10, 2);
+    claim("11", high, 11, 2);
+    claim("11, a gain", gain, 11, 4);
+    claim("12", bare, 12, 2);
+    totals_are("2", noughtelm_check(board, right, 2, right + 2, 2, right + 4, 2, 1, 1), 2, 0, 0, 0);
+    totals_are("9", noughtelm_check(board, right, 1, right + 2, 2, right + 4, 2, 0, 1), 9, 0, 0, 0);
+    totals_are("9, longer", noughtelm_check(board, right, 2, right + 2, 3, right + 4, 2, 0, 1), 9, 0, 0, 0);
+    totals_are("10, gone", noughtelm_check(gone, right, 2, right + 2, 2, right + 4, 2, 0, 1), 10, 2, 0, 0);
+    totals_are("11, gone", noughtelm_check(gone, left, 2, left + 2, 2, left + 4, 2, 0, 1), 11, 1, 0, 0);
+}
+
+/* A text that is refused, by all three calls. */
+static void text(const char *what, const uint8_t *bytes, size_t count, uint64_t number, uint64_t line)
+{
+    uint8_t out[40], expected[40];
+    const noughtelm_answer answer = noughtelm_replay(bytes, count);
+    number_is(what, answer.number, number);
+    number_is(what, answer.place, line);
+    memset(out, 7, sizeof out);
+    memset(expected, 7, sizeof expected);
+    told_is(what, noughtelm_plan_text(bytes, count, out, sizeof out), number, line, 0);
+    bytes_are(what, out, expected, sizeof out);
+    const int length = snprintf((char *)expected, sizeof expected, "R\t%d\t%d\n", (int)number, (int)line);
+    expected[length] = 7;
+    told_is(what, noughtelm_sheet_text(bytes, count, out, sizeof out), 0, 0, (uint64_t)length);
+    bytes_are(what, out, expected, sizeof out);
+}
+
+static void texts(void)
+{
+    static uint8_t lines[NOUGHTELM_MAX_TEXT + 1];
+    memset(lines, '\n', sizeof lines);
+    text("1", TEXT("K\t65\t1\t10\n"), 1, 1);
+    text("2", TEXT("K\t2\t5\t5\n"), 2, 1);
+    text("4", TEXT(CASE_1 "W\t3\n"), 4, 4);
+    text("5", TEXT(CASE_1 "W\t1\nA\t1\t5\n"), 5, 5);
+    text("6", TEXT("K\t2\t1\t10\nA\t1\t0\n"), 6, 2);
+    text("7", TEXT("K\t2\t1\t10\nA\t2\t5\t1\t5\n"), 7, 2);
+    text("14", TEXT("K\t2\t1\t10\nA\t1\n"), 14, 2);
+    text("14, no byte 10", TEXT("K\t2\t1\t10\nA"), 14, 2);
+    text("14, empty", NULL, 0, 14, 1);
+    text("14, as long as can be", lines, NOUGHTELM_MAX_TEXT, 14, 1);
+    text("15", lines, sizeof lines, 15, 0);
+}
+
+int main(void)
+{
+    opening();
+    arrivals();
+    withdrawals();
+    full();
+    checks();
+    texts();
+    return all_checks();
+}
