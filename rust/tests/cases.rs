@@ -1,4 +1,5 @@
-//! The cases that document 01 prints, by calls and by texts.
+//! The cases that document 01 prints, by calls and by texts, and the example of
+//! R-1 in document 02.
 
 use noughtelm_tests::model::auction::*;
 use noughtelm_tests::model::check::{check, Claim, Totals};
@@ -133,6 +134,40 @@ fn case_15_true_share() {
     assert_eq!(arrive(&mut auction, &[(1, 61), (2, 30)]), Ok(1));
     assert_eq!(arrive(&mut auction, &[(1, 121)]), Ok(0));
     assert_state(&auction, &[0, 1, 0], 61, 183, 151);
+}
+
+/// Document 02, R-1: "at 1/10 with kettle 1 priced 0 and worth 50, and kettle 2
+/// priced 100 and worth 60, kettle 2 is now taken". Its holder takes it back.
+#[test]
+fn equal_utility_goes_to_the_larger_weight() {
+    let mut auction = open(2, 1, 10).unwrap();
+    assert_eq!(arrive(&mut auction, &[(2, 100)]), Ok(1));
+    assert_eq!(auction.prices(), [0, 100]);
+    assert_eq!(arrive(&mut auction, &[(1, 50), (2, 60)]), Ok(3));
+    assert_state(&auction, &[2, 1], 150, 1_650, 150);
+    assert_eq!((auction.prices(), auction.gains()), (vec![50, 260], vec![840, 500]));
+}
+
+/// The same, but the holder of item 2 has no open edge left, so that item 2 stays.
+#[test]
+fn larger_weight_is_kept() {
+    let mut auction = open(3, 1, 10).unwrap();
+    assert_eq!(arrive(&mut auction, &[(2, 89), (3, 80)]), Ok(1));
+    assert_eq!(arrive(&mut auction, &[(2, 11)]), Ok(2));
+    assert_eq!((auction.prices(), auction.matching()), (vec![0, 100, 80], vec![3, 2]));
+    assert_eq!(arrive(&mut auction, &[(1, 50), (2, 60)]), Ok(1));
+    assert_state(&auction, &[3, 0, 2], 140, 1_540, 141);
+    assert_eq!((auction.prices(), auction.gains()), (vec![0, 160, 80], vec![800, 0, 500]));
+}
+
+/// Item 2 has equal utility and the larger weight, but "equality is not open".
+#[test]
+fn larger_weight_must_be_open() {
+    let mut auction = open(2, 1, 2).unwrap();
+    assert_eq!(arrive(&mut auction, &[(2, 100)]), Ok(1));
+    assert_eq!(arrive(&mut auction, &[(1, 50), (2, 100)]), Ok(1));
+    assert_state(&auction, &[2, 1], 150, 450, 150);
+    assert_eq!((auction.prices(), auction.gains()), (vec![50, 100], vec![200, 100]));
 }
 
 /// Edge by edge 4, 5, 6, 7: the first bad edge decides.

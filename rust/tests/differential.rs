@@ -8,9 +8,11 @@ use noughtelm_tests::gen::list::{rising, spoil};
 use noughtelm_tests::model::auction::*;
 use noughtelm_tests::model::refusal::*;
 use noughtelm_tests::rng::Rng;
+use noughtelm_tests::ties::ties_of;
+use std::ops::Range;
 
 /// How many histories of each kind are tried.
-const HISTORIES: [(Kind, u64); 7] = [
+const HISTORIES: [(Kind, u64); 8] = [
     (Kind::Small, 9_000),
     (Kind::Sparse, 2_000),
     (Kind::Dense, 2_000),
@@ -18,7 +20,14 @@ const HISTORIES: [(Kind, u64); 7] = [
     (Kind::Limits, 300),
     (Kind::Withdrawals, 2_000),
     (Kind::Refused, 1_500),
+    (Kind::EqualUtility, 4_000),
 ];
+
+fn seeds(kind: Kind) -> Range<u64> {
+    let (_, count) = HISTORIES.iter().find(|(other, _)| kind == *other).unwrap();
+    let first = 1_000_000 * (kind as u64 + 1);
+    first..first + count
+}
 
 #[test]
 fn histories_are_many() {
@@ -58,16 +67,15 @@ fn run(history: &History, rng: &mut Rng, seen: &mut Tally) -> Same<()> {
 }
 
 fn run_kind(kind: Kind) -> Tally {
-    let (_, count) = HISTORIES.iter().find(|(other, _)| kind == *other).unwrap();
     let mut seen = Tally::default();
-    for seed in (0..*count).map(|n| 1_000_000 * (kind as u64 + 1) + n) {
+    for seed in seeds(kind) {
         let history = history(&mut Rng::new(seed), kind);
         if let Err(found) = run(&history, &mut Rng::new(!seed), &mut seen) {
             panic!("seed {seed}, {kind:?}: {found}\n{history:?}");
         }
         note_limits(&history, &mut seen);
     }
-    assert_eq!(seen.of("open", 0), *count);
+    assert_eq!(seen.of("open", 0), seeds(kind).count() as u64);
     println!("{kind:?}: {seen:?}");
     seen
 }
@@ -130,6 +138,17 @@ fn histories_with_refused_calls() {
     let seen = run_kind(Kind::Refused);
     seen.assert_seen("arrive", &[0, FULL, UNKNOWN, GONE, WORTH, ORDER], 500);
     seen.assert_seen("withdraw", &[0, UNKNOWN, GONE], 500);
+}
+
+/// R-1 of document 02 decides many bids of these, and so does the lower number.
+#[test]
+fn histories_of_equal_utility() {
+    let kind = Kind::EqualUtility;
+    run_served(kind);
+    let ties = ties_of(seeds(kind).map(|seed| history(&mut Rng::new(seed), kind)));
+    println!("{ties:?}");
+    assert!(ties.weights >= 10_000 && ties.lower >= 4_000);
+    assert!(ties.full >= 9_000 && ties.closed >= 3_000);
 }
 
 #[test]

@@ -1,6 +1,9 @@
-//! The proved calls, from the static library, on the first cases of document 01.
+//! The proved calls, from the static library, on the first cases of document 01
+//! and on the example of R-1 in document 02.
 
-use noughtelm_tests::ffi::{self, Answer, Edge, EdgeBuffer, Told, Totals, MAX_OUTPUT};
+use noughtelm_tests::ffi::{
+    self, Answer, Auction, Edge, EdgeBuffer, Scaled, Told, Totals, MAX_OUTPUT,
+};
 
 const TEXT: &[u8] = b"K\t2\t1\t10\nA\t1\t100\t2\t60\nA\t1\t90\n";
 const PRINTED: &[u8] =
@@ -95,6 +98,66 @@ fn withdrawals() {
     let (mut plan, mut prices, mut gains) = ([0; 2], [0; 2], [0; 2]);
     ffi::read_out(gone.board, &mut plan, &mut prices, &mut gains);
     assert_eq!((plan, prices, gains), ([2, 0], [0, 60], [600, 0]));
+}
+
+/// One more bidder, who makes so many bids.
+fn arrived(board: Auction, edges: &[(u64, u64)], bids: u64) -> Auction {
+    let edges: Vec<Edge> = edges.iter().map(|&(item, weight)| Edge { item, weight }).collect();
+    let after = ffi::arrive(board, &edges);
+    assert_eq!(after.told(), served(bids), "{edges:?}");
+    after.board
+}
+
+fn assert_lists<const B: usize, const I: usize>(
+    board: Auction,
+    plan: [u64; B],
+    prices: [u64; I],
+    gains: [u64; B],
+) {
+    let (mut m, mut y, mut g) = ([9; B], [9; I], [9; B]);
+    assert_eq!(ffi::read_out(board, &mut m, &mut y, &mut g), served(0));
+    assert_eq!((m, y, g), (plan, prices, gains));
+}
+
+#[test]
+fn case_5_stands() {
+    let board = arrived(ffi::open(2, 1, 10).board, &[(1, 50), (2, 50)], 1);
+    assert_lists(board, [1], [50, 0], [500]);
+}
+
+/// Document 02, R-1: "at 1/10 with kettle 1 priced 0 and worth 50, and kettle 2
+/// priced 100 and worth 60, kettle 2 is now taken". Its holder takes it back.
+#[test]
+fn equal_utility_goes_to_the_larger_weight() {
+    let board = arrived(ffi::open(2, 1, 10).board, &[(2, 100)], 1);
+    assert_lists(board, [2], [0, 100], [1_000]);
+    let board = arrived(board, &[(1, 50), (2, 60)], 3);
+    assert_lists(board, [2, 1], [50, 260], [840, 500]);
+}
+
+/// The same, but the holder of item 2 has no open edge left, so that item 2 stays:
+/// after a history, and on a sound board that no history need reach.
+#[test]
+fn larger_weight_is_kept() {
+    let board = arrived(ffi::open(3, 1, 10).board, &[(2, 89), (3, 80)], 1);
+    let board = arrived(board, &[(2, 11)], 2);
+    assert_lists(board, [3, 2], [0, 100, 80], [800, 21]);
+    let board = arrived(board, &[(1, 50), (2, 60)], 1);
+    assert_lists(board, [3, 0, 2], [0, 160, 80], [800, 0, 500]);
+
+    let mut board = arrived(ffi::open(2, 1, 10).board, &[(2, 10)], 1);
+    (board.price[1], board.gain[0]) = (Scaled(100), Scaled(10));
+    assert!(ffi::is_sound(board));
+    let board = arrived(board, &[(1, 50), (2, 60)], 1);
+    assert_lists(board, [0, 2], [0, 160], [0, 500]);
+}
+
+/// Item 2 has equal utility and the larger weight, but "equality is not open".
+#[test]
+fn larger_weight_must_be_open() {
+    let board = arrived(ffi::open(2, 1, 2).board, &[(2, 100)], 1);
+    let board = arrived(board, &[(1, 50), (2, 100)], 1);
+    assert_lists(board, [2, 1], [50, 100], [200, 100]);
 }
 
 #[test]

@@ -1,6 +1,6 @@
 //! The laws of document 01 on every board that the library reaches in random
-//! histories. They are read off the board's own numbers; no model takes part,
-//! and the greatest weight is the plain solver's.
+//! histories. They are read off the board's own numbers, without the model, and
+//! the greatest weight is the plain solver's.
 
 use noughtelm_tests::both::Tally;
 use noughtelm_tests::ffi;
@@ -9,6 +9,8 @@ use noughtelm_tests::gen::sheet::{edges, sheet, Pattern};
 use noughtelm_tests::laws::{on_board, require, Law};
 use noughtelm_tests::model::auction::{Edge, Slack, MAX_ITEMS};
 use noughtelm_tests::rng::Rng;
+use noughtelm_tests::ties::ties_of;
+use std::ops::Range;
 
 /// "Over every history from opening, the bids number at most the entries ever
 /// accepted times the whole part of (q - 1)/p".
@@ -75,9 +77,14 @@ fn run(history: &History, seen: &mut Tally) -> Result<(u64, u64), String> {
     Ok((bids, accepted * ((q - 1) / p)))
 }
 
+fn seeds(kind: Kind, count: u64) -> Range<u64> {
+    let first = 200_000 + 10_000 * kind as u64;
+    first..first + count
+}
+
 fn run_all(kind: Kind, count: u64) -> Tally {
     let (mut seen, mut bids) = (Tally::default(), 0);
-    for seed in (0..count).map(|n| 200_000 + 10_000 * kind as u64 + n) {
+    for seed in seeds(kind, count) {
         let history = history(&mut Rng::new(seed), kind);
         match run(&history, &mut seen) {
             Ok((made, _)) => bids += made,
@@ -124,6 +131,17 @@ fn histories_with_refused_calls() {
     let seen = run_all(Kind::Refused, 400);
     seen.assert_seen("arrive", &[0, 3, 4, 5, 6, 7], 50);
     seen.assert_seen("withdraw", &[0, 4, 5], 50);
+}
+
+/// "The share and the sum hold under the new choice" (document 02, R-1).
+#[test]
+fn histories_of_equal_utility() {
+    let kind = Kind::EqualUtility;
+    run_all(kind, 2_000);
+    let ties = ties_of(seeds(kind, 2_000).map(|seed| history(&mut Rng::new(seed), kind)));
+    println!("{ties:?}");
+    assert!(ties.weights >= 5_000 && ties.lower >= 2_000);
+    assert!(ties.full >= 4_500 && ties.closed >= 1_500);
 }
 
 /// Many bidders for few items at a small slack: the bids that the bound is for.

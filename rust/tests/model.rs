@@ -1,5 +1,6 @@
-//! The model against itself: document 01's laws on random histories, the
-//! solver against trying everything, and the check on pairs that it must take.
+//! The model against itself: document 01's laws on random histories, the choice
+//! of an edge against trying all pairs of them, the solver against trying
+//! everything, and the check on pairs that it must take.
 
 use noughtelm_tests::gen::claim;
 use noughtelm_tests::gen::history::{history, staircase, Call, History, Kind};
@@ -9,6 +10,7 @@ use noughtelm_tests::model::hungarian::{brute_force, solve, Exact};
 use noughtelm_tests::model::refusal::*;
 use noughtelm_tests::model::sound::{from_record, is_sound, to_record};
 use noughtelm_tests::rng::Rng;
+use noughtelm_tests::ties::{by_pairs, offers, walk, Offer, Ties, Walk};
 use std::collections::BTreeSet;
 
 /// Histories of each kind; those at the limits take the most bids.
@@ -145,6 +147,105 @@ fn histories_with_many_withdrawals() {
 fn histories_with_refused_calls() {
     let refused = run_kind(Kind::Refused).refused;
     assert_eq!(refused, BTreeSet::from([FULL, UNKNOWN, GONE, WORTH, ORDER]));
+}
+
+#[test]
+fn histories_of_equal_utility() {
+    run_served(Kind::EqualUtility);
+}
+
+/// A bidder at the last item, with edges at others whose prices leave few utilities.
+fn choosing(rng: &mut Rng) -> Auction {
+    let (p, q): (u64, u64) = rng.pick(&[(1, 2), (1, 3), (1, 10), (2, 5), (9, 10), (999, 1_000)]);
+    let last = rng.range(2, 8);
+    let mut items = vec![Item { price: 0, withdrawn: false }; last as usize];
+    let mut edges = Vec::new();
+    for item in 1..last {
+        let weight = rng.pick(&[4, 5, 5, 6, 8]);
+        let utility = rng.pick(&[4 * q, 4 * q, 5 * p, 6 * p]);
+        let price = (q * weight).saturating_sub(utility);
+        items[item as usize - 1] = Item { price, withdrawn: rng.chance(1, 8) };
+        if rng.chance(7, 8) {
+            edges.push(Edge { item, weight });
+        }
+    }
+    edges.push(Edge { item: last, weight: 1 });
+    Auction { slack: Slack { p, q }, items, bidders: vec![Bidder { edges, gain: 0, item: last }] }
+}
+
+/// One bid at any prices, of a bidder whose item is withdrawn: the edge taken comes
+/// first in every pair of open ones.
+#[test]
+fn choice_by_pairs() {
+    let mut rng = Rng::new(9);
+    let (mut ties, mut unplaced) = (Ties::default(), 0);
+    for _ in 0..30_000 {
+        let mut auction = choosing(&mut rng);
+        let last = auction.items.len();
+        let mut left = auction.clone();
+        left.items[last - 1].withdrawn = true;
+        let offers = offers(&left, 0);
+        let expected = by_pairs(&offers);
+        assert_eq!(auction.withdraw(last as u64), Ok(expected.is_some() as u64));
+        let taken = (auction.bidders[0].item, auction.bidders[0].gain as i64);
+        let told = format!("{:?}, {offers:?}", auction.slack);
+        assert_eq!(taken, expected.map_or((0, 0), |o| (o.edge.item, o.utility)), "{told}");
+        unplaced += expected.is_none() as u64;
+        expected.into_iter().for_each(|taken| ties.note(&offers, taken));
+    }
+    println!("{ties:?}, {unplaced} unplaced");
+    assert!(ties.weights >= 6_000 && ties.lower >= 3_000);
+    assert!(ties.full >= 4_000 && ties.closed >= 3_000 && unplaced >= 5_000);
+}
+
+/// Every bid of a history by pairs, beside the model's calls.
+fn bid_by_pairs(history: &History) -> Ties {
+    let mut auction = Auction::open(history.items, history.slack).unwrap();
+    let mut walk = Walk::open(history, by_pairs);
+    for next in &history.calls {
+        assert_eq!(call(&mut auction, next), Ok(walk.call(next)), "{history:?}");
+        assert_eq!(auction, walk.auction, "{history:?}");
+    }
+    walk.ties
+}
+
+#[test]
+fn bids_by_pairs() {
+    let mut rng = Rng::new(10);
+    let mut ties = Ties::default();
+    for kind in [Kind::Small, Kind::Ties, Kind::Withdrawals, Kind::EqualUtility] {
+        (0..1_000).for_each(|_| ties += bid_by_pairs(&history(&mut rng, kind)));
+        println!("up to {kind:?}: {ties:?}");
+    }
+    assert!(ties.weights >= 3_000 && ties.lower >= 1_000);
+    assert!(ties.full >= 4_500 && ties.closed >= 1_000);
+}
+
+/// Document 01's choice without R-1: "of equal ones, the lowest kettle".
+fn lowest_item(offers: &[Offer]) -> Option<Offer> {
+    let open = offers.iter().copied().filter(|offer| offer.open);
+    open.reduce(|best, next| if next.utility > best.utility { next } else { best })
+}
+
+/// R-1's example, and many histories, end otherwise where the lowest item is taken.
+#[test]
+fn lowest_item_gives_something_else() {
+    let edge = |item: u64, weight: u64| Edge { item, weight };
+    let calls = [vec![edge(2, 100)], vec![edge(1, 50), edge(2, 60)]].map(Call::Arrive).to_vec();
+    let example = History { items: 2, slack: Slack { p: 1, q: 10 }, calls };
+    let (now, before) = (walk(&example, by_pairs), walk(&example, lowest_item));
+    assert_eq!((now.ties.bids, now.auction.prices()), (4, vec![50, 260]));
+    assert_eq!((before.ties.bids, before.auction.prices()), (2, vec![50, 100]));
+    let mut rng = Rng::new(17);
+    let (mut boards, mut matchings) = (0, 0);
+    for _ in 0..2_000 {
+        let history = history(&mut rng, Kind::EqualUtility);
+        let (now, before) = (walk(&history, by_pairs), walk(&history, lowest_item));
+        boards += (now.auction != before.auction) as u64;
+        matchings += (now.auction.matching() != before.auction.matching()) as u64;
+    }
+    println!("of 2,000 histories {boards} end otherwise, {matchings} in another matching");
+    assert!(boards >= 800 && matchings >= 500);
 }
 
 /// Longest path, and the exact level where every bidder moves.

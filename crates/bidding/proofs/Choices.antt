@@ -1,56 +1,105 @@
 -- Which item the rule chooses: the computed answer is right, and there is one right answer.
-use mathlib.Core.Path.{_≡_, refl}
-use mathlib.Core.Logic.{by-cases}
+use mathlib.Core.Path.{_≡_, refl, sym, _∙_}
+use mathlib.Core.Logic.{inl, inr, by-cases}
 use mathlib.Core.Bool.{Bool, true, false, cond, _&&_}
 use Prim.Native.Nat.{ℕ, zero, suc, _*_, _≤_, _<_}
-use native.Mathlib.Nat.{not-suc-le-zero, le-refl}
+use native.Mathlib.Nat.{not-suc-le-zero, le-refl, le-antisymm}
 use native.Mathlib.Decide.{decLt}
 use native.Mathlib.Omega.{arith}
+use lib.Dec.{ltb}
+use borrow.Author.Tests.{ltb-false, le-ltb}
 use Rattle.duality.specs.Steps.{utility, Open}
 use Rattle.duality.specs.Decide.{Decides}
 use Rattle.duality.proofs.Below.{one-more}
-use Rattle.duality.proofs.Decide.{clash, lt-decides}
+use Rattle.duality.proofs.Decide.{clash, reword, lt-decides, eq-decides, and-decides, or-decides}
 use Rattle.board.specs.declared.units.Pence.{Pence}
 use Rattle.board.specs.declared.units.Scaled.{Scaled}
 use Rattle.bidding.specs.declared.rule.BestEdge.{BestEdge}
 use Rattle.bidding.specs.declared.rule.BestEdge.the-variants.{At, Nothing}
 use Rattle.board.specs.Cells.{pence, scaled}
-use Rattle.bidding.specs.Rule.{Chosen, NoneOpen, offerOf, bestOf}
-use Rattle.bidding.specs.RuleLaws.{Choice, chosen, none, BestIsChosen, ChosenOnce}
+use Rattle.bidding.specs.Rule.{Chosen, NoneOpen, beats, offerOf, bestOf}
+use Rattle.bidding.specs.RuleLaws.{Choice, chosen, none, BestIsChosen, ChosenOnce, TiesByWeight}
+
+-- The edge at item k + 1 goes before that at item j + 1, or they are the same
+record Before (q : ℕ) (w y : ℕ → ℕ) (k j : ℕ) : Type 0 where
+  pub greatest : utility q (w j) (y j) ≤ utility q (w k) (y k)
+  pub heaviest : utility q (w j) (y j) ≡ utility q (w k) (y k) → w j ≤ w k
+  pub lowest : utility q (w j) (y j) ≡ utility q (w k) (y k) → w j ≡ w k → k ≤ j
+
+-- What `beats` decides of the edge at item m + 1 beside that at item k + 1: where its utility is not greater, it is equal and the weight is greater
+abbrev Beats : ℕ → (ℕ → ℕ) → (ℕ → ℕ) → ℕ → ℕ → Type 0
+Beats q w y m k = utility q (w m) (y m) ≤ utility q (w k) (y k) → (utility q (w m) (y m) ≡ utility q (w k) (y k)) × (w k < w m)
+
+beats-decides : (q m : ℕ) (w y : ℕ → ℕ) (k : ℕ) →
+    Decides (beats (utility q (w m) (y m)) (w m) (At k (pence (w k)) (scaled (utility q (w k) (y k))))) (Beats q w y m k)
+beats-decides q m w y k =
+    let u = utility q (w m) (y m) in
+    let g = utility q (w k) (y k) in
+    reword (or-decides {s = ltb g u} (and-decides (eq-decides u g) (lt-decides (w k) (w m)))) (λ h l. h (le-ltb g u l)) (λ h e. h (ltb-false g u e))
+
+module _ {q m : ℕ} {w y : ℕ → ℕ} where
+  -- An edge that beats another goes before all that the other went before
+  overtakes : {k : ℕ} → Beats q w y m k → (j : ℕ) → Before q w y k j → Before q w y m j
+  overtakes {k} b j f =
+      by-cases (decLt (utility q (w k) (y k)) (utility q (w m) (y m)))
+      (λ l. record { greatest = omega (arith, f .greatest); heaviest = λ e. absurd (omega (arith, f .greatest)); lowest = λ e _. absurd (omega (arith, f .greatest)) })
+      (λ g.
+      let t = b (omega arith) in
+      record {
+        greatest = omega (arith, t .0, f .greatest);
+        heaviest = λ e. omega (arith, t .1, f .heaviest (e ∙ t .0));
+        lowest = λ e v. absurd (omega (arith, t .1, f .heaviest (e ∙ t .0)));
+      })
+
+  -- Otherwise the other, at a lower item, goes before it
+  stays-before : {k : ℕ} → k < m → (Beats q w y m k → ⊥) → Before q w y k m
+  stays-before {k} l n =
+      record {
+        greatest = by-cases (decLt (utility q (w k) (y k)) (utility q (w m) (y m))) (λ g. absurd (n (λ h. absurd (omega arith)))) (λ g. omega arith);
+        heaviest = λ e. by-cases (decLt (w k) (w m)) (λ g. absurd (n (λ h. (e, g)))) (λ g. omega arith);
+        lowest = λ _ _. omega arith;
+      }
 
 module _ {p q m : ℕ} {w y : ℕ → ℕ} where
-  -- The chosen item stays so where the next edge is not open or not better
-  keeps : {k : ℕ} → Chosen p q m w y k → (Open p q (w m) (y m) → utility q (w m) (y m) ≤ utility q (w k) (y k)) → Chosen p q (suc m) w y k
-  keeps c h = record { item = omega (arith, c .item); «open» = c .«open»; greatest = one-more m _ (c .greatest) h; lowest = c .lowest }
+  -- The chosen one goes before every open edge
+  goes-before : {k : ℕ} → Chosen p q m w y k → (j : ℕ) → j < m → Open p q (w j) (y j) → Before q w y k j
+  goes-before c j l o = record { greatest = c .greatest j l o; heaviest = c .heaviest j l o; lowest = c .lowest j l o }
 
-  -- The next edge, better than every open one before it
-  betters : Open p q (w m) (y m) → ((j : ℕ) → j < m → Open p q (w j) (y j) → utility q (w j) (y j) < utility q (w m) (y m)) → Chosen p q (suc m) w y m
-  betters o h =
+  is-chosen : {k : ℕ} → k < suc m → Open p q (w k) (y k) → ((j : ℕ) → j < suc m → Open p q (w j) (y j) → Before q w y k j) → Chosen p q (suc m) w y k
+  is-chosen l o h =
       record {
-        item = le-refl (suc m);
+        item = l;
         «open» = o;
-        greatest = one-more m (λ j. Open p q (w j) (y j) → utility q (w j) (y j) ≤ utility q (w m) (y m)) (λ j l e. omega (arith, h j l e)) (λ e. le-refl _);
-        lowest = h;
+        greatest = λ j l o. h j l o .greatest;
+        heaviest = λ j l o. h j l o .heaviest;
+        lowest = λ j l o. h j l o .lowest;
       }
+
+  -- The chosen item stays so where the next edge is not open or does not go before
+  keeps : {k : ℕ} → Chosen p q m w y k → (Open p q (w m) (y m) → Before q w y k m) → Chosen p q (suc m) w y k
+  keeps {k} c h = is-chosen (omega (arith, c .item)) (c .«open») (one-more m (λ j. Open p q (w j) (y j) → Before q w y k j) (goes-before c) h)
+
+  -- The next edge, where it goes before every open one
+  betters : Open p q (w m) (y m) → ((j : ℕ) → j < m → Open p q (w j) (y j) → Before q w y m j) → Chosen p q (suc m) w y m
+  betters o h =
+      let same : Before q w y m m = record { greatest = le-refl _; heaviest = λ _. le-refl _; lowest = λ _ _. le-refl _ } in
+      is-chosen (le-refl (suc m)) o (one-more m (λ j. Open p q (w j) (y j) → Before q w y m j) h (λ _. same))
 
   after-none : (s : Bool) → Decides s (Open p q (w m) (y m)) → NoneOpen p q m w y →
       Choice p q (suc m) w y (cond (s && true) (At m (pence (w m)) (scaled (utility q (w m) (y m)))) Nothing)
   after-none true d h = chosen (betters (d .sound refl) (λ j l o. absurd (h j l o)))
   after-none false d h = none (one-more m _ h (λ o. clash false (d .complete o) refl))
 
-  after-chosen : {k : ℕ} (s t : Bool) → Decides s (Open p q (w m) (y m)) → Decides t (utility q (w k) (y k) < utility q (w m) (y m)) → Chosen p q m w y k →
+  after-chosen : {k : ℕ} (s t : Bool) → Decides s (Open p q (w m) (y m)) → Decides t (Beats q w y m k) → Chosen p q m w y k →
       Choice p q (suc m) w y (cond (s && t) (At m (pence (w m)) (scaled (utility q (w m) (y m)))) (At k (pence (w k)) (scaled (utility q (w k) (y k)))))
-  after-chosen true true d e c = chosen (betters (d .sound refl) (λ j l o. omega (arith, c .greatest j l o, e .sound refl)))
-  after-chosen true false d e c =
-      chosen (keeps c (λ o. let less : ¬ (utility q _ _ < utility q (w m) (y m)) = λ l. clash false (e .complete l) refl in omega arith))
+  after-chosen true true d e c = chosen (betters (d .sound refl) (λ j l o. overtakes (e .sound refl) j (goes-before c j l o)))
+  after-chosen true false d e c = chosen (keeps c (λ o. stays-before (c .item) (λ h. clash false (e .complete h) refl)))
   after-chosen false t d e c = chosen (keeps c (λ o. absurd (clash false (d .complete o) refl)))
 
   after : {best : BestEdge} → Choice p q m w y best → Choice p q (suc m) w y (offerOf p q m (w m) (y m) best)
   unfolding offerOf
   after (none h) = after-none _ (lt-decides (p * w m) (utility q (w m) (y m))) h
-  after (chosen {k = k} c) =
-      let u = utility q (w m) (y m) in
-      after-chosen _ _ (lt-decides (p * w m) u) (lt-decides (utility q (w k) (y k)) u) c
+  after (chosen {k = k} c) = after-chosen _ _ (lt-decides (p * w m) (utility q (w m) (y m))) (beats-decides q m w y k) c
 
 pub best-is-chosen : BestIsChosen
 unfolding bestOf
@@ -59,11 +108,14 @@ best-is-chosen p q (suc m) w y = after (best-is-chosen p q m w y)
 
 pub chosen-once : ChosenOnce
 chosen-once p q m w y j k c d =
-    by-cases (decLt j k)
-    (λ l. absurd (omega (arith, d .lowest j l (c .«open»), c .greatest k (d .item) (d .«open»))))
-    (λ g. by-cases (decLt k j)
-    (λ l. absurd (omega (arith, c .lowest k l (d .«open»), d .greatest j (c .item) (c .«open»))))
-    (λ h. omega arith))
+    let u : utility q (w j) (y j) ≡ utility q (w k) (y k) =
+    le-antisymm (d .greatest j (c .item) (c .«open»)) (c .greatest k (d .item) (d .«open»)) in
+    let v : w j ≡ w k = le-antisymm (d .heaviest j (c .item) (c .«open») u) (c .heaviest k (d .item) (d .«open») (sym u)) in
+    le-antisymm (c .lowest k (d .item) (d .«open») (sym u) (sym v)) (d .lowest j (c .item) (c .«open») u v)
+
+pub ties-by-weight : TiesByWeight
+ties-by-weight p q m w y j k c l o u =
+    by-cases (decLt (w j) (w k)) (λ h. inl h) (λ g. let v : w j ≡ w k = omega (arith, c .heaviest j l o u) in inr (v, c .lowest j l o u v))
 
 -- What an answer says
 pub record Answers (p q m : ℕ) (w y : ℕ → ℕ) (k : ℕ) (v : Pence) (u : Scaled) : Type 0 where

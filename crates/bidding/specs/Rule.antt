@@ -1,9 +1,9 @@
 -- The rule: which item a bidder takes, what a bid does, and the chain of bids.
 use mathlib.Core.Path.{_≡_}
-use mathlib.Core.Bool.{Bool, true, cond, _&&_}
+use mathlib.Core.Bool.{Bool, true, cond, _&&_, _||_}
 use Prim.Native.Nat.{ℕ, zero, suc, _+_, _*_, _<_, _≤_}
 use lib.ListN.{set}
-use lib.Dec.{ltb}
+use lib.Dec.{eqb, ltb}
 use Rattle.duality.specs.Steps.{utility, Open}
 use Rattle.board.specs.declared.record.Auction.{Auction}
 use Rattle.board.specs.declared.record.Holder.{Holder}
@@ -16,26 +16,29 @@ use Rattle.bidding.specs.Potential.{bidLimit}
 
 -- ---- Which item. m is the number of items, w k the weight of the bidder's live edge at item k + 1, y k the item's price.
 
--- "A bidding batch takes its open live entry of greatest utility; of equal ones, the lowest kettle"
+-- "A bidding batch takes its open live entry of greatest utility" (document 01); "of two kettles with equal utility a batch takes the one with the larger
+-- worth, and only then the lower number" (document 02, R-1). A field for each: greatest, heaviest, lowest.
 pub record Chosen (p q m : ℕ) (w y : ℕ → ℕ) (k : ℕ) : Type 0 where
   pub item : k < m
   pub «open» : Open p q (w k) (y k)
   pub greatest : (j : ℕ) → j < m → Open p q (w j) (y j) → utility q (w j) (y j) ≤ utility q (w k) (y k)
-  pub lowest : (j : ℕ) → j < k → Open p q (w j) (y j) → utility q (w j) (y j) < utility q (w k) (y k)
+  pub heaviest : (j : ℕ) → j < m → Open p q (w j) (y j) → utility q (w j) (y j) ≡ utility q (w k) (y k) → w j ≤ w k
+  pub lowest : (j : ℕ) → j < m → Open p q (w j) (y j) → utility q (w j) (y j) ≡ utility q (w k) (y k) → w j ≡ w k → k ≤ j
 
 -- No edge is open
 abbrev pub NoneOpen : ℕ → ℕ → ℕ → (ℕ → ℕ) → (ℕ → ℕ) → Type 0
 NoneOpen p q m w y = (k : ℕ) → k < m → Open p q (w k) (y k) → ⊥
 
--- A utility is above that of the best so far
-abbrev pub beats : ℕ → BestEdge → Bool
-beats u Nothing = true
-beats u (At k w v) = ltb (v .0) u
+-- An edge of utility u and weight w goes before the best so far: its utility is greater, or equal and its weight greater. Items are looked at in
+-- rising order, so where both are equal the lower item stays.
+abbrev pub beats : ℕ → ℕ → BestEdge → Bool
+beats u w Nothing = true
+beats u w (At k v g) = ltb (g .0) u || (eqb u (g .0) && ltb (v .0) w)
 
 -- The best so far, after the edge at item k + 1 has been looked at
 unfoldable pub offerOf : ℕ → ℕ → ℕ → ℕ → ℕ → BestEdge → BestEdge
 offerOf p q k w y best =
-    cond (ltb (p * w) (utility q w y) && beats (utility q w y) best) (At k (pence w) (scaled (utility q w y))) best
+    cond (ltb (p * w) (utility q w y) && beats (utility q w y) w best) (At k (pence w) (scaled (utility q w y))) best
 
 -- The best of the first m items, computed: the chosen one with its weight and utility, or nothing (RuleLaws says so)
 unfoldable pub bestOf : ℕ → ℕ → (ℕ → ℕ) → (ℕ → ℕ) → ℕ → BestEdge

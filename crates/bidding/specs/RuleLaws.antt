@@ -2,7 +2,7 @@
 use mathlib.Core.Path.{_≡_}
 use mathlib.Core.Logic.{_↔_, _⊎_}
 use Prim.Native.Nat.{ℕ, _+_, _≤_, _<_}
-use Rattle.duality.specs.Steps.{utility}
+use Rattle.duality.specs.Steps.{utility, Open}
 use Rattle.board.specs.declared.record.Auction.{Auction}
 use Rattle.board.specs.declared.record.Holder.the-variants.{Held, Free}
 use Rattle.bidding.specs.declared.rule.BestEdge.{BestEdge}
@@ -26,6 +26,12 @@ BestIsChosen = (p q m : ℕ) (w y : ℕ → ℕ) → Choice p q m w y (bestOf p 
 
 abbrev pub ChosenOnce : Type 0
 ChosenOnce = (p q m : ℕ) (w y : ℕ → ℕ) (j k : ℕ) → Chosen p q m w y j → Chosen p q m w y k → j ≡ k
+
+-- Beside any open edge of equal utility, the one that is taken has "the larger worth, and only then the lower number"
+abbrev pub TiesByWeight : Type 0
+TiesByWeight =
+    (p q m : ℕ) (w y : ℕ → ℕ) (j k : ℕ) → Chosen p q m w y k → j < m → Open p q (w j) (y j) → utility q (w j) (y j) ≡ utility q (w k) (y k) →
+    (w j < w k) ⊎ ((w j ≡ w k) × (k ≤ j))
 
 -- ---- A bid keeps soundness. `waits` is any set of further bidders that are still to bid; i is not of it.
 

@@ -13,7 +13,7 @@ ghost use Rattle.board.specs.Cells.{scaledAt};
 ghost use Rattle.board.specs.Live.{liveIn};
 ghost use Rattle.bidding.specs.Rule.{beats, offerOf, bestOf};
 
-// The open edge of greatest utility among the items looked at.
+// The best open edge among the items looked at.
 pub enum BestEdge {
     At {
         item: usize,
@@ -23,20 +23,23 @@ pub enum BestEdge {
     Nothing,
 }
 
-// Whether a utility is no more than that of the best so far.
-fn is_beaten(utility: Scaled, best: BestEdge) -> bool
-    ensures { λ r. ⌜ r ≡ not (beats (utility .0) best) ⌝ }
+// Whether an edge does not go before the best so far: its utility is less, or equal and its weight no more.
+fn is_beaten(utility: Scaled, weight: Pence, best: BestEdge) -> bool
+    ensures { λ r. ⌜ r ≡ not (beats (utility .0) (weight .0) best) ⌝ }
 {
     let BestEdge::At {
         item: _,
-        weight: _,
+        weight: heaviest,
         utility: greatest,
     } = best
     else {
         return false;
     };
-    if utility.0 <= greatest.0 {
+    if utility.0 < greatest.0 {
         return true;
+    }
+    if utility.0 == greatest.0 {
+        return weight.0 <= heaviest.0;
     }
     false
 }
@@ -50,7 +53,7 @@ fn offer(best: BestEdge, item: usize, weight: Pence, price: Scaled, slack: Slack
         return best;
     }
     let utility = slack.utility(weight, price);
-    if is_beaten(utility, best) {
+    if is_beaten(utility, weight, best) {
         return best;
     }
     if utility.0 <= slack.step(weight).0 {
@@ -73,7 +76,7 @@ fn live_weight(cell: u32, withdrawn: bool) -> Pence
     weight_in(cell)
 }
 
-// The open live edge of greatest utility of a row; of equal ones that at the lowest item.
+// The open live edge of greatest utility of a row; of equal ones the heaviest, and of these that at the lowest item.
 pub(crate) fn best_open<'a>(
     weights: &'a [u32],
     prices: [Scaled; Auction::MAX_ITEMS],

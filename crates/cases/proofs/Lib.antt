@@ -1,5 +1,6 @@
 pub mod Skips
 pub mod Table
+pub mod Ties
 pub mod Text
 pub mod FullBoard
 pub mod Refused

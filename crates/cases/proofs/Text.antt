@@ -31,9 +31,10 @@ use Rattle.replay.specs.Replay.{afterArrived, afterArrival, afterWithdrawn, aft
 use Rattle.auction.proofs.Demand2.{arrive-demand-2, withdraw-demand-2}
 use Rattle.history.specs.Output.{bidderLines, itemLines, outputOf}
 use Rattle.history.specs.Plan.{sheetOf, printedBy, printed}
-use Rattle.cases.specs.Text.{text1, printed1, text2, printed2, firstLine1, texts, Texts, Starred}
+use Rattle.cases.specs.Text.{text1, printed1, text2, printed2, textTied, printedTied, firstLine1, texts, Texts, Starred}
 use Rattle.cases.proofs.Skips.{arrive-skips, withdraw-skips, ready-sound}
 use Rattle.cases.proofs.Table.{cases}
+use Rattle.cases.proofs.Ties.{ties}
 
 -- The lines without the test
 unfoldable skipOut : (Auction → ℕ → Outcome Replayed) → ℕ → Auction → ℕ → Command → Outcome Replayed
@@ -104,71 +105,22 @@ opens-so : (s out : List ℕ) → Opens s → Prints s out → sheetOf s ≡ out
 unfolding sheetOf
 opens-so s out e f = ap printed (e ∙ lines-skip (suc (length s)) s 9 2 (openOf 2 1 10 .auction) 0 sound-1) ∙ f
 
-text-1-opens : Opens text1
+-- The texts of the table that open such a board, in its order
+all-open : Opens text1 × Opens text2 × Opens textTied × Opens (firstLine1 ++ (65 ∷ 9 ∷ 51 ∷ 9 ∷ 53 ∷ 10 ∷ [])) × Opens (firstLine1 ++ ((87 ∷ 9 ∷ 49 ∷ 10 ∷ []) ++ (87 ∷ 9 ∷ 49 ∷ 10 ∷ []))) ×
+    Opens (firstLine1 ++ (87 ∷ 9 ∷ 49 ∷ [])) × Opens (firstLine1 ++ (65 ∷ 9 ∷ 51 ∷ 10 ∷ []))
 unfolding replayOf firstLine afterOpened commandOf lineAt fieldsAt fieldAt openOf openBy slackTest withinTest firstOf
-text-1-opens = refl
+all-open = (refl, refl, refl, refl, refl, refl, refl)
 
-text-1-prints : Prints text1 printed1
+all-print : Prints text1 printed1 × Prints text2 printed2 × Prints textTied printedTied ×
+    Prints (firstLine1 ++ (65 ∷ 9 ∷ 51 ∷ 9 ∷ 53 ∷ 10 ∷ [])) (82 ∷ 9 ∷ 52 ∷ 9 ∷ 50 ∷ 10 ∷ []) ×
+    Prints (firstLine1 ++ ((87 ∷ 9 ∷ 49 ∷ 10 ∷ []) ++ (87 ∷ 9 ∷ 49 ∷ 10 ∷ []))) (82 ∷ 9 ∷ 53 ∷ 9 ∷ 51 ∷ 10 ∷ []) ×
+    Prints (firstLine1 ++ (87 ∷ 9 ∷ 49 ∷ [])) (82 ∷ 9 ∷ 49 ∷ 52 ∷ 9 ∷ 50 ∷ 10 ∷ []) ×
+    Prints (firstLine1 ++ (65 ∷ 9 ∷ 51 ∷ 10 ∷ [])) (82 ∷ 9 ∷ 49 ∷ 52 ∷ 9 ∷ 50 ∷ 10 ∷ [])
 unfolding
     skipLines skipOut lineAt fieldsAt fieldAt commandOf pairsOf afterArrival afterArrived afterWithdrawal afterWithdrawn printed printedBy outputOf bidderLines itemLines decimal
     heldBy edgeCount offerOf bestOf placedAt displaced handOver bidOf settleOf firstOf withinTest orderTest edgeChecks edgesChecks rowTo carryOut
     opened slackTest openBy openOf arriveRest entered arrivalOf arrivedOf arriveBy withdrawRest released withdrawalOf withdrawnOf withdrawBy
-text-1-prints = refl
-
-text-2-opens : Opens text2
-unfolding replayOf firstLine afterOpened commandOf lineAt fieldsAt fieldAt openOf openBy slackTest withinTest firstOf
-text-2-opens = refl
-
-text-2-prints : Prints text2 printed2
-unfolding
-    skipLines skipOut lineAt fieldsAt fieldAt commandOf pairsOf afterArrival afterArrived afterWithdrawal afterWithdrawn printed printedBy outputOf bidderLines itemLines decimal
-    heldBy edgeCount offerOf bestOf placedAt displaced handOver bidOf settleOf firstOf withinTest orderTest edgeChecks edgesChecks rowTo carryOut
-    opened slackTest openBy openOf arriveRest entered arrivalOf arrivedOf arriveBy withdrawRest released withdrawalOf withdrawnOf withdrawBy
-text-2-prints = refl
-
-unknown-item-opens : Opens (firstLine1 ++ (65 ∷ 9 ∷ 51 ∷ 9 ∷ 53 ∷ 10 ∷ []))
-unfolding replayOf firstLine afterOpened commandOf lineAt fieldsAt fieldAt openOf openBy slackTest withinTest firstOf
-unknown-item-opens = refl
-
-unknown-item-prints : Prints (firstLine1 ++ (65 ∷ 9 ∷ 51 ∷ 9 ∷ 53 ∷ 10 ∷ [])) (82 ∷ 9 ∷ 52 ∷ 9 ∷ 50 ∷ 10 ∷ [])
-unfolding
-    skipLines skipOut lineAt fieldsAt fieldAt commandOf pairsOf afterArrival afterArrived afterWithdrawal afterWithdrawn printed printedBy outputOf bidderLines itemLines decimal
-    heldBy edgeCount offerOf bestOf placedAt displaced handOver bidOf settleOf firstOf withinTest orderTest edgeChecks edgesChecks rowTo carryOut
-    opened slackTest openBy openOf arriveRest entered arrivalOf arrivedOf arriveBy withdrawRest released withdrawalOf withdrawnOf withdrawBy
-unknown-item-prints = refl
-
-gone-twice-opens : Opens (firstLine1 ++ ((87 ∷ 9 ∷ 49 ∷ 10 ∷ []) ++ (87 ∷ 9 ∷ 49 ∷ 10 ∷ [])))
-unfolding replayOf firstLine afterOpened commandOf lineAt fieldsAt fieldAt openOf openBy slackTest withinTest firstOf
-gone-twice-opens = refl
-
-gone-twice-prints : Prints (firstLine1 ++ ((87 ∷ 9 ∷ 49 ∷ 10 ∷ []) ++ (87 ∷ 9 ∷ 49 ∷ 10 ∷ []))) (82 ∷ 9 ∷ 53 ∷ 9 ∷ 51 ∷ 10 ∷ [])
-unfolding
-    skipLines skipOut lineAt fieldsAt fieldAt commandOf pairsOf afterArrival afterArrived afterWithdrawal afterWithdrawn printed printedBy outputOf bidderLines itemLines decimal
-    heldBy edgeCount offerOf bestOf placedAt displaced handOver bidOf settleOf firstOf withinTest orderTest edgeChecks edgesChecks rowTo carryOut
-    opened slackTest openBy openOf arriveRest entered arrivalOf arrivedOf arriveBy withdrawRest released withdrawalOf withdrawnOf withdrawBy
-gone-twice-prints = refl
-
-unclosed-opens : Opens (firstLine1 ++ (87 ∷ 9 ∷ 49 ∷ []))
-unfolding replayOf firstLine afterOpened commandOf lineAt fieldsAt fieldAt openOf openBy slackTest withinTest firstOf
-unclosed-opens = refl
-
-unclosed-prints : Prints (firstLine1 ++ (87 ∷ 9 ∷ 49 ∷ [])) (82 ∷ 9 ∷ 49 ∷ 52 ∷ 9 ∷ 50 ∷ 10 ∷ [])
-unfolding
-    skipLines skipOut lineAt fieldsAt fieldAt commandOf pairsOf afterArrival afterArrived afterWithdrawal afterWithdrawn printed printedBy outputOf bidderLines itemLines decimal
-    heldBy edgeCount offerOf bestOf placedAt displaced handOver bidOf settleOf firstOf withinTest orderTest edgeChecks edgesChecks rowTo carryOut
-    opened slackTest openBy openOf arriveRest entered arrivalOf arrivedOf arriveBy withdrawRest released withdrawalOf withdrawnOf withdrawBy
-unclosed-prints = refl
-
-form-first-opens : Opens (firstLine1 ++ (65 ∷ 9 ∷ 51 ∷ 10 ∷ []))
-unfolding replayOf firstLine afterOpened commandOf lineAt fieldsAt fieldAt openOf openBy slackTest withinTest firstOf
-form-first-opens = refl
-
-form-first-prints : Prints (firstLine1 ++ (65 ∷ 9 ∷ 51 ∷ 10 ∷ [])) (82 ∷ 9 ∷ 49 ∷ 52 ∷ 9 ∷ 50 ∷ 10 ∷ [])
-unfolding
-    skipLines skipOut lineAt fieldsAt fieldAt commandOf pairsOf afterArrival afterArrived afterWithdrawal afterWithdrawn printed printedBy outputOf bidderLines itemLines decimal
-    heldBy edgeCount offerOf bestOf placedAt displaced handOver bidOf settleOf firstOf withinTest orderTest edgeChecks edgesChecks rowTo carryOut
-    opened slackTest openBy openOf arriveRest entered arrivalOf arrivedOf arriveBy withdrawRest released withdrawalOf withdrawnOf withdrawBy
-form-first-prints = refl
+all-print = (refl, refl, refl, refl, refl, refl, refl)
 
 -- Refused at the first line, or without one
 slack-refused : sheetOf (75 ∷ 9 ∷ 50 ∷ 9 ∷ 53 ∷ 9 ∷ 53 ∷ 10 ∷ []) ≡ 82 ∷ 9 ∷ 50 ∷ 9 ∷ 49 ∷ 10 ∷ []
@@ -185,13 +137,14 @@ also e f = ap₂ (λ (x : List ℕ) (xs : List (List ℕ)). x ∷ xs) e f
 pub texts-print : Texts
 unfolding texts
 texts-print =
-    also (opens-so _ _ text-1-opens text-1-prints) (
-    also (opens-so _ _ text-2-opens text-2-prints) (
-    also (opens-so _ _ unknown-item-opens unknown-item-prints) (
-    also (opens-so _ _ gone-twice-opens gone-twice-prints) (
-    also (opens-so _ _ unclosed-opens unclosed-prints) (
-    also (opens-so _ _ form-first-opens form-first-prints) (
-    also slack-refused (also empty-refused refl)))))))
+    also (opens-so _ _ (all-open .0) (all-print .0)) (
+    also (opens-so _ _ (all-open .1) (all-print .1)) (
+    also (opens-so _ _ (all-open .2) (all-print .2)) (
+    also (opens-so _ _ (all-open .3) (all-print .3)) (
+    also (opens-so _ _ (all-open .4) (all-print .4)) (
+    also (opens-so _ _ (all-open .5) (all-print .5)) (
+    also (opens-so _ _ (all-open .6) (all-print .6)) (
+    also slack-refused (also empty-refused refl))))))))
 
 pub starred : Starred
-starred = record { calls = cases; texts = texts-print }
+starred = record { calls = cases; texts = texts-print; ties = ties }

@@ -1,6 +1,7 @@
 -- The starred cases of document 01, and further ones worked out.
 pub mod Play
 pub mod Table
+pub mod Ties
 pub mod Text
 pub mod FullBoard
 pub mod Refused

@@ -1,4 +1,4 @@
--- The table of the starred cases: each case as document 01 gives it, and what is seen.
+-- The table of the starred cases: each case as document 01 gives it, and what is seen; with the worked example of document 02's R-1.
 use mathlib.Core.Path.{_≡_}
 use mathlib.Core.List.{List, [], _∷_, map}
 use Rattle.board.specs.Cells.{edge}
@@ -12,6 +12,10 @@ case1 = arrive (edge 1 100 ∷ (edge 2 60 ∷ [])) ∷ (arrive (edge 1 90 ∷ []
 -- The same, and a check at 0/1
 abbrev pub after1 : Lists → List Call
 after1 l = arrive (edge 1 100 ∷ (edge 2 60 ∷ [])) ∷ (arrive (edge 1 90 ∷ []) ∷ (check l 0 1 ∷ []))
+
+-- The worked example of R-1, as a history
+abbrev pub tied : List Call
+tied = arrive (edge 2 100 ∷ []) ∷ (arrive (edge 1 50 ∷ (edge 2 60 ∷ [])) ∷ [])
 
 pub record Row : Type 0 where
   pub case : Case
@@ -35,6 +39,12 @@ table =
     (board (1 ∷ (0 ∷ [])) (200 ∷ (0 ∷ [])) (100 ∷ []) 100 300 100 (0 ∷ (1 ∷ []))) ∷
     -- 5 "Entries 50 and 50 on kettles 1 and 2: kettle 1"
     (row (on 2 1 2 (arrive (edge 1 50 ∷ (edge 2 50 ∷ [])) ∷ [])) (board (1 ∷ []) (100 ∷ []) (50 ∷ (0 ∷ [])) 50 150 50 (1 ∷ [])) ∷
+    -- Document 02, R-1: "at 1/10 with kettle 1 priced 0 and worth 50, and kettle 2 priced 100 and worth 60, kettle 2 is now taken". Batch 1 has brought
+    -- kettle 2 to 100; batch 2 takes it at equal utilities of 500, batch 1 takes it back, and batch 2 ends on kettle 1: three bids
+    (row (on 2 1 10 tied) (board (2 ∷ (1 ∷ [])) (840 ∷ (500 ∷ [])) (50 ∷ (260 ∷ [])) 150 1650 150 (3 ∷ (1 ∷ []))) ∷
+    -- At slack 1/2 kettle 2, priced 100, has an equal utility of 100 and the larger worth, but "equality is not open": batch 2 takes kettle 1
+    (row (on 2 1 2 (arrive (edge 2 100 ∷ []) ∷ (arrive (edge 1 50 ∷ (edge 2 100 ∷ [])) ∷ [])))
+    (board (2 ∷ (1 ∷ [])) (200 ∷ (100 ∷ [])) (50 ∷ (100 ∷ [])) 150 450 150 (1 ∷ (1 ∷ []))) ∷
     -- 6 "Empty arrival: accepted, no bids"
     (row (on 2 1 2 (arrive [] ∷ [])) (board (0 ∷ []) (0 ∷ []) (0 ∷ (0 ∷ [])) 0 0 0 (0 ∷ [])) ∷
     -- 7 "After case 1, check at 0/1 with the printed plan, prices 40, 0, gains 60, 50: totals 150 and 150"
@@ -48,7 +58,7 @@ table =
     -- 15 "At slack 1/2, two kettles; batch 1 has 60 on kettle 1, batch 2 has 61 on kettle 1 and 30 on kettle 2, batch 3 has 121 on kettle 1: batch
     -- 2 ends on kettle 1, the others unplaced, two bids; sum 183, greatest worth 151"
     (row (on 2 1 2 (arrive (edge 1 60 ∷ []) ∷ (arrive (edge 1 61 ∷ (edge 2 30 ∷ [])) ∷ (arrive (edge 1 121 ∷ []) ∷ []))))
-    (board (0 ∷ (1 ∷ (0 ∷ []))) (0 ∷ (62 ∷ (0 ∷ []))) (121 ∷ (0 ∷ [])) 61 183 151 (0 ∷ (1 ∷ (1 ∷ [])))) ∷ []))))))))))
+    (board (0 ∷ (1 ∷ (0 ∷ []))) (0 ∷ (62 ∷ (0 ∷ []))) (121 ∷ (0 ∷ [])) 61 183 151 (0 ∷ (1 ∷ (1 ∷ [])))) ∷ []))))))))))))
 
 -- Each case is seen as the table has it
 abbrev pub Cases : Type 0

@@ -4,6 +4,7 @@ use mathlib.Core.List.{List, [], _∷_, _++_, map}
 use Prim.Native.Nat.{ℕ}
 use Rattle.history.specs.Plan.{sheetOf}
 use Rattle.cases.specs.Table.{Cases}
+use Rattle.cases.specs.Ties.{Ties}
 
 -- K, 2, 1, 10; A, 1, 100, 2, 60; A, 1, 90: fields parted by a tab (9), lines closed by byte 10
 abbrev pub text1 : List ℕ
@@ -32,6 +33,21 @@ printed2 =
     ((89 ∷ 9 ∷ 50 ∷ 9 ∷ 54 ∷ 48 ∷ 10 ∷ []) ++
     ((84 ∷ 9 ∷ 54 ∷ 48 ∷ 9 ∷ 54 ∷ 54 ∷ 48 ∷ 9 ∷ 55 ∷ 10 ∷ []) ++ (69 ∷ 9 ∷ 54 ∷ 48 ∷ 10 ∷ []))))
 
+-- K, 2, 1, 10; A, 2, 100; A, 1, 50, 2, 60: the worked example of document 02's R-1
+abbrev pub textTied : List ℕ
+textTied =
+    (75 ∷ 9 ∷ 50 ∷ 9 ∷ 49 ∷ 9 ∷ 49 ∷ 48 ∷ 10 ∷ []) ++
+    ((65 ∷ 9 ∷ 50 ∷ 9 ∷ 49 ∷ 48 ∷ 48 ∷ 10 ∷ []) ++ (65 ∷ 9 ∷ 49 ∷ 9 ∷ 53 ∷ 48 ∷ 9 ∷ 50 ∷ 9 ∷ 54 ∷ 48 ∷ 10 ∷ []))
+
+-- P, 1, 2, 840; P, 2, 1, 500; Y, 1, 50; Y, 2, 260; T, 150, 1650, 4; E, 150
+abbrev pub printedTied : List ℕ
+printedTied =
+    (80 ∷ 9 ∷ 49 ∷ 9 ∷ 50 ∷ 9 ∷ 56 ∷ 52 ∷ 48 ∷ 10 ∷ []) ++
+    ((80 ∷ 9 ∷ 50 ∷ 9 ∷ 49 ∷ 9 ∷ 53 ∷ 48 ∷ 48 ∷ 10 ∷ []) ++
+    ((89 ∷ 9 ∷ 49 ∷ 9 ∷ 53 ∷ 48 ∷ 10 ∷ []) ++
+    ((89 ∷ 9 ∷ 50 ∷ 9 ∷ 50 ∷ 54 ∷ 48 ∷ 10 ∷ []) ++
+    ((84 ∷ 9 ∷ 49 ∷ 53 ∷ 48 ∷ 9 ∷ 49 ∷ 54 ∷ 53 ∷ 48 ∷ 9 ∷ 52 ∷ 10 ∷ []) ++ (69 ∷ 9 ∷ 49 ∷ 53 ∷ 48 ∷ 10 ∷ [])))))
+
 -- K, 2, 1, 10: the first line of the texts below
 abbrev pub firstLine1 : List ℕ
 firstLine1 = 75 ∷ 9 ∷ 50 ∷ 9 ∷ 49 ∷ 9 ∷ 49 ∷ 48 ∷ 10 ∷ []
@@ -50,6 +66,8 @@ texts =
     textRow text1 printed1 ∷
     -- 2 "Then kettle 1 withdrawn: batch 2 unplaced, worth 60, sum 660, no bid"
     (textRow text2 printed2 ∷
+    -- R-1 "kettle 2 is now taken": batch 2 takes it first, which displaces batch 1
+    (textRow textTied printedTied ∷
     -- "A refused text prints only `R`, number, line": A, 3, 5 names kettle 3 of 2, so R, 4, 2
     (textRow (firstLine1 ++ (65 ∷ 9 ∷ 51 ∷ 9 ∷ 53 ∷ 10 ∷ [])) (82 ∷ 9 ∷ 52 ∷ 9 ∷ 50 ∷ 10 ∷ []) ∷
     -- 14 "Kettle withdrawn twice: 5": W, 1; W, 1: R, 5, 3
@@ -61,13 +79,14 @@ texts =
     -- 10 "Opening with 5/5: 2": K, 2, 5, 5: R, 2, 1
     (textRow (75 ∷ 9 ∷ 50 ∷ 9 ∷ 53 ∷ 9 ∷ 53 ∷ 10 ∷ []) (82 ∷ 9 ∷ 50 ∷ 9 ∷ 49 ∷ 10 ∷ []) ∷
     -- "an empty text is 14 at line 1"
-    (textRow [] (82 ∷ 9 ∷ 49 ∷ 52 ∷ 9 ∷ 49 ∷ 10 ∷ []) ∷ [])))))))
+    (textRow [] (82 ∷ 9 ∷ 49 ∷ 52 ∷ 9 ∷ 49 ∷ 10 ∷ []) ∷ []))))))))
 
 -- Each text prints what the table has
 abbrev pub Texts : Type 0
 Texts = map (λ (r : TextRow). sheetOf (r .text)) texts ≡ map (λ (r : TextRow). r .printed) texts
 
--- The starred cases: the table of calls, and the table of texts
+-- The starred cases: the table of calls, the table of texts, and the choices among ties
 pub record Starred : Type 0 where
   pub calls : Cases
   pub texts : Texts
+  pub ties : Ties

@@ -2,7 +2,7 @@
 use Rattle.refusals.proofs.Verdicts.{codes-apart}
 use Rattle.refusals.proofs.Answers.{told-apart}
 use Rattle.board.proofs.SoundLaw.{sound-decides}
-use Rattle.bidding.proofs.Choices.{chosen-once}
+use Rattle.bidding.proofs.Choices.{best-is-chosen, chosen-once, ties-by-weight}
 use Rattle.bidding.proofs.Chains.{chain-once}
 use Rattle.auction.proofs.Demand1.{open-demand-1, arrive-demand-1, withdraw-demand-1, read-out-demand-1, call-orders}
 use Rattle.auction.proofs.Demand2.{arrive-ends, withdraw-ends, arrive-demand-2, withdraw-demand-2, sound-demand-2}
@@ -47,8 +47,10 @@ demand-2 =
     record {
       arrives = arrive-demand-2;
       withdraws = withdraw-demand-2;
+      taken = best-is-chosen;
       chosen = chosen-once;
       chain = chain-once;
+      ties = ties-by-weight;
       sound = sound-demand-2;
       reads = read-out-demand-2;
       tested = sound-decides;

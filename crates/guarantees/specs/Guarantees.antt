@@ -4,7 +4,7 @@ use Rattle.board.specs.Sound.{Sound}
 use Rattle.board.specs.SoundTest.{SoundTestDecides}
 use Rattle.refusals.specs.Codes.{CodesApart}
 use Rattle.refusals.specs.Told.{ToldApart}
-use Rattle.bidding.specs.RuleLaws.{ChosenOnce, ChainOnce}
+use Rattle.bidding.specs.RuleLaws.{BestIsChosen, ChosenOnce, TiesByWeight, ChainOnce}
 use Rattle.auction.specs.Demand1.{OpenDemand1, ArriveDemand1, WithdrawDemand1, ReadOutDemand1, CallOrders}
 use Rattle.auction.specs.Demand2.{ArriveEnds, WithdrawEnds, ArriveDemand2, WithdrawDemand2, SoundDemand2, ReadOutDemand2}
 use Rattle.auction.specs.Histories.{HistoryDemand2}
@@ -52,9 +52,12 @@ pub record QuickBids : Type 0 where
   -- And the list becomes the bidder's entries, the others' are as before, and the board after is sound
   pub arrives : ArriveDemand2
   pub withdraws : WithdrawDemand2
-  -- "no more and no fewer": there is one chosen edge, and one chain
+  -- "no more and no fewer": where an edge is open there is a chosen one, which is the computed one; there is one chosen edge, and one chain
+  pub taken : BestIsChosen
   pub chosen : ChosenOnce
   pub chain : ChainOnce
+  -- R-1: "of two kettles with equal utility a batch takes the one with the larger worth, and only then the lower number"
+  pub ties : TiesByWeight
   -- "Prices plus gains total q + p times the plan's worth, and worth times q + p is at least q - p times the worth of every plan on the live sheet", on
   -- every sound board, and of the lists that are read out; and "I hold the dearest unplaced batch against each free kettle", so after every accepted
   -- arrival and withdrawal

@@ -127,9 +127,11 @@ impl Auction {
         bids
     }
 
+    /// Greatest utility, then largest weight, then lowest item: edges stand in
+    /// rising order of items, so the first of equal ones stays.
     fn best_open(&self, bidder: usize) -> Option<Choice> {
         let mut best: Option<Choice> = None;
-        let mut greatest = 0;
+        let (mut greatest, mut heaviest) = (0, 0);
         for edge in self.edges_of(bidder) {
             let (item, weight) = (edge.item as usize, edge.weight as u64);
             let price = self.price[item];
@@ -137,10 +139,11 @@ impl Auction {
                 continue;
             }
             let utility = self.q * weight - price;
-            if utility > greatest {
-                greatest = utility;
-                best = Some(Choice { item, weight, utility });
+            if utility < greatest || utility == greatest && weight <= heaviest {
+                continue;
             }
+            (greatest, heaviest) = (utility, weight);
+            best = Some(Choice { item, weight, utility });
         }
         best
     }

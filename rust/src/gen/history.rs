@@ -26,10 +26,11 @@ pub enum Kind {
     Limits,
     Withdrawals,
     Refused,
+    EqualUtility,
 }
 
 impl Kind {
-    pub const ALL: [Kind; 7] = [
+    pub const ALL: [Kind; 8] = [
         Kind::Small,
         Kind::Sparse,
         Kind::Dense,
@@ -37,6 +38,7 @@ impl Kind {
         Kind::Limits,
         Kind::Withdrawals,
         Kind::Refused,
+        Kind::EqualUtility,
     ];
 }
 
@@ -62,7 +64,20 @@ enum Weights {
 }
 
 pub fn history(rng: &mut Rng, kind: Kind) -> History {
-    let shape = shape(rng, kind);
+    match kind {
+        Kind::Small => shaped(rng, small),
+        Kind::Sparse => shaped(rng, sparse),
+        Kind::Dense => shaped(rng, dense),
+        Kind::Ties => shaped(rng, ties),
+        Kind::Limits => shaped(rng, limits),
+        Kind::Withdrawals => shaped(rng, withdrawals),
+        Kind::Refused => shaped(rng, refused),
+        Kind::EqualUtility => equal_utility(rng),
+    }
+}
+
+fn shaped(rng: &mut Rng, shape: fn(&mut Rng) -> Shape) -> History {
+    let shape = shape(rng);
     let mut withdrawn = vec![false; shape.items as usize];
     let mut arrived = 0;
     let mut calls = Vec::new();
@@ -74,24 +89,12 @@ pub fn history(rng: &mut Rng, kind: Kind) -> History {
                 withdrawn[item as usize - 1] = true;
                 calls.push(Call::Withdraw(item));
             }
-        } else if arrived < MAX_BIDDERS || kind == Kind::Refused {
+        } else if arrived < MAX_BIDDERS || shape.refused > 0 {
             arrived += 1;
             calls.push(Call::Arrive(edges(rng, &shape, &withdrawn)));
         }
     }
     History { items: shape.items, slack: shape.slack, calls }
-}
-
-fn shape(rng: &mut Rng, kind: Kind) -> Shape {
-    match kind {
-        Kind::Small => small(rng),
-        Kind::Sparse => sparse(rng),
-        Kind::Dense => dense(rng),
-        Kind::Ties => ties(rng),
-        Kind::Limits => limits(rng),
-        Kind::Withdrawals => withdrawals(rng),
-        Kind::Refused => refused(rng),
-    }
 }
 
 fn small(rng: &mut Rng) -> Shape {
@@ -209,6 +212,49 @@ fn edges(rng: &mut Rng, shape: &Shape, withdrawn: &[bool]) -> Vec<Edge> {
     items.truncate(if full { items.len() } else { rng.range(0, most) as usize });
     items.sort();
     items.into_iter().map(|item| Edge { item, weight: weight(rng, shape.weights) }).collect()
+}
+
+/// A history made beside its auction: each arrival is made for the prices that it
+/// finds, so that many edges of different weights have one utility.
+fn equal_utility(rng: &mut Rng) -> History {
+    let (p, q) = rng.pick(&[(1, 2), (1, 3), (1, 10), (2, 5)]);
+    let (items, slack) = (rng.range(2, 7), Slack { p, q });
+    let mut auction = Auction::open(items, slack).expect("it opens");
+    let mut calls = Vec::new();
+    for _ in 0..rng.range(3, 20) {
+        let withdrawn: Vec<bool> = auction.items.iter().map(|item| item.withdrawn).collect();
+        let live = live_items(&withdrawn);
+        let call = match one_of(rng, &live) {
+            Some(item) if rng.chance(12, 100) => Call::Withdraw(item),
+            Some(item) => Call::Arrive(meeting(rng, &auction, &live, item)),
+            None => Call::Arrive(Vec::new()),
+        };
+        match &call {
+            Call::Arrive(edges) => auction.arrive(edges),
+            Call::Withdraw(item) => auction.withdraw(*item),
+        }
+        .expect("a good call");
+        calls.push(call);
+    }
+    History { items, slack, calls }
+}
+
+/// Edges at most live items. Where the price allows it, at the item `met` at least,
+/// "q × w - Y" is one number for all.
+fn meeting(rng: &mut Rng, auction: &Auction, live: &[u64], met: u64) -> Vec<Edge> {
+    let (q, prices) = (auction.slack.q, auction.prices());
+    let price = |item: u64| prices[item as usize - 1];
+    let utility = 300 * q * rng.range(1, 3) - price(met) % q;
+    let mut edges = Vec::new();
+    for &item in live {
+        let scaled = utility + price(item);
+        let meets = scaled % q == 0 && rng.chance(7, 8);
+        let weight = if meets { scaled / q } else { rng.pick(&[30, 300, 600]) };
+        if rng.chance(3, 4) {
+            edges.push(Edge { item, weight });
+        }
+    }
+    edges
 }
 
 const STRANGE: [u64; 10] = [0, 65, 66, 127, 255, 256, 65_536, 1 << 32, 1 << 63, u64::MAX];

@@ -154,12 +154,14 @@ impl Auction {
         bids
     }
 
-    /// The open live edge of greatest utility; of equal ones the lowest item.
+    /// The open live edge of greatest utility. "Of two kettles with equal utility a
+    /// batch takes the one with the larger worth, and only then the lower number"
+    /// (document 02, R-1).
     fn best_open(&self, bidder: usize) -> Option<Edge> {
         let edges = self.bidders[bidder].edges.iter().copied();
         edges
             .filter(|&e| self.is_live(e) && self.is_open(e))
-            .max_by_key(|&e| (self.utility(e), Reverse(e.item)))
+            .max_by_key(|&e| (self.utility(e), e.weight, Reverse(e.item)))
     }
 
     fn take(&mut self, bidder: usize, edge: Edge) {

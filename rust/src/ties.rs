@@ -1,0 +1,164 @@
+//! Chains of bids, one bid after another, by any rule of choice, and what stood
+//! equal when a bidder chose. So the ties of a history are counted, and another
+//! rule can be seen to give something else.
+
+use crate::gen::history::{Call, History};
+use crate::model::auction::*;
+use std::ops::AddAssign;
+
+/// A live edge of a bidder that bids.
+#[derive(Clone, Copy, Debug, PartialEq, Eq)]
+pub struct Offer {
+    pub edge: Edge,
+    /// "The utility is q × w - Y."
+    pub utility: i64,
+    /// "The entry is open if the utility is greater than p × w; equality is not open."
+    pub open: bool,
+}
+
+/// Which of a bidder's offers it takes, if any.
+pub type Rule = fn(&[Offer]) -> Option<Offer>;
+
+/// How many bids were made, and at how many of them other edges of the bidder
+/// had the utility of the one taken.
+#[derive(Clone, Copy, Debug, Default, PartialEq, Eq)]
+pub struct Ties {
+    pub bids: u64,
+    /// An open one of another weight.
+    pub weights: u64,
+    /// An open one at a lower item.
+    pub lower: u64,
+    /// An open one of the same weight.
+    pub full: u64,
+    /// A heavier one that is not open.
+    pub closed: u64,
+}
+
+impl Ties {
+    pub fn note(&mut self, offers: &[Offer], taken: Offer) {
+        let Edge { item, weight } = taken.edge;
+        let equal = offers.iter().filter(|o| o.utility == taken.utility && o.edge.item != item);
+        let (open, closed): (Vec<&Offer>, Vec<&Offer>) = equal.partition(|o| o.open);
+        self.bids += 1;
+        self.weights += open.iter().any(|o| o.edge.weight != weight) as u64;
+        self.lower += open.iter().any(|o| o.edge.item < item) as u64;
+        self.full += open.iter().any(|o| o.edge.weight == weight) as u64;
+        self.closed += closed.iter().any(|o| o.edge.weight > weight) as u64;
+    }
+}
+
+impl AddAssign for Ties {
+    fn add_assign(&mut self, more: Ties) {
+        self.bids += more.bids;
+        self.weights += more.weights;
+        self.lower += more.lower;
+        self.full += more.full;
+        self.closed += more.closed;
+    }
+}
+
+pub fn offers(auction: &Auction, bidder: usize) -> Vec<Offer> {
+    let Slack { p, q } = auction.slack;
+    let live = auction.bidders[bidder].edges.iter().filter(|&&edge| auction.is_live(edge));
+    live.map(|&edge| {
+        let price = auction.items[edge.item as usize - 1].price;
+        let utility = (q * edge.weight) as i64 - price as i64;
+        Offer { edge, utility, open: utility > (p * edge.weight) as i64 }
+    })
+    .collect()
+}
+
+/// "Of two kettles with equal utility a batch takes the one with the larger worth,
+/// and only then the lower number" (document 02, R-1); of two others, document
+/// 01's, the one of greater utility.
+fn comes_first(one: &Offer, other: &Offer) -> bool {
+    if one.utility != other.utility {
+        return one.utility > other.utility;
+    }
+    if one.edge.weight != other.edge.weight {
+        return one.edge.weight > other.edge.weight;
+    }
+    one.edge.item < other.edge.item
+}
+
+/// The open offer that comes first in every pair with another open one.
+pub fn by_pairs(offers: &[Offer]) -> Option<Offer> {
+    let open: Vec<&Offer> = offers.iter().filter(|o| o.open).collect();
+    let others = |one: &Offer| open.iter().filter(|o| o.edge.item != one.edge.item).count();
+    let won = |one: &Offer| open.iter().filter(|o| comes_first(one, o)).count();
+    let first: Vec<&Offer> = open.iter().copied().filter(|one| won(one) == others(one)).collect();
+    assert_eq!(first.len(), !open.is_empty() as usize, "not one that comes first: {open:?}");
+    first.first().map(|&&offer| offer)
+}
+
+/// An auction whose calls are all served, by a rule of choice.
+pub struct Walk {
+    pub auction: Auction,
+    pub ties: Ties,
+    rule: Rule,
+}
+
+impl Walk {
+    pub fn open(history: &History, rule: Rule) -> Walk {
+        let auction = Auction::open(history.items, history.slack).expect("it opens");
+        Walk { auction, ties: Ties::default(), rule }
+    }
+
+    /// The call's bids.
+    pub fn call(&mut self, call: &Call) -> u64 {
+        match call {
+            Call::Arrive(edges) => {
+                self.auction.bidders.push(Bidder { edges: edges.clone(), gain: 0, item: 0 });
+                self.chain(Some(self.auction.bidders.len() - 1))
+            }
+            Call::Withdraw(item) => {
+                let holder = self.auction.holder(*item);
+                self.displace(holder);
+                self.auction.items[*item as usize - 1] = Item { price: 0, withdrawn: true };
+                self.chain(holder)
+            }
+        }
+    }
+
+    /// "Its gain becomes that utility. The kettle's price then rises by p × w. The
+    /// batch that held the kettle, if any, is displaced, its gain becomes 0, and it
+    /// bids next."
+    fn chain(&mut self, mut bidding: Option<usize>) -> u64 {
+        let before = self.ties.bids;
+        while let Some(bidder) = bidding {
+            let offers = offers(&self.auction, bidder);
+            let Some(taken) = (self.rule)(&offers) else { break };
+            self.ties.note(&offers, taken);
+            let Edge { item, weight } = taken.edge;
+            bidding = self.auction.holder(item);
+            self.displace(bidding);
+            self.auction.bidders[bidder].item = item;
+            self.auction.bidders[bidder].gain = taken.utility as u64;
+            self.auction.items[item as usize - 1].price += self.auction.slack.p * weight;
+        }
+        self.ties.bids - before
+    }
+
+    fn displace(&mut self, holder: Option<usize>) {
+        if let Some(holder) = holder {
+            self.auction.bidders[holder].item = 0;
+            self.auction.bidders[holder].gain = 0;
+        }
+    }
+}
+
+/// The history's end by a rule: the auction, and what its bids met.
+pub fn walk(history: &History, rule: Rule) -> Walk {
+    let mut walk = Walk::open(history, rule);
+    for call in &history.calls {
+        walk.call(call);
+    }
+    walk
+}
+
+/// What the bids of these histories met, all of whose calls are served.
+pub fn ties_of(histories: impl Iterator<Item = History>) -> Ties {
+    let mut met = Ties::default();
+    histories.for_each(|history| met += walk(&history, by_pairs).ties);
+    met
+}
