@@ -4,7 +4,7 @@
  *
  * Names are the field's: document 01's kettle is an item here, its batch a bidder, its entry an
  * edge, its worth a weight, its plan a matching. What is between quotation marks below is
- * document 01's. Weights are whole pence; prices and gains are q-ths of a penny, where nothing
+ * document 01's, or of document 02 where that is said. Weights are whole pence; prices and gains are q-ths of a penny, where nothing
  * else is said. Items and bidders are numbered from 1.
  *
  * What a call answers. Number 0 says that the call served; its place is 0, and its value is said
@@ -61,6 +61,9 @@
 /* The most bytes of a text, and of what is printed of one: a list of so many is never short. */
 #define NOUGHTELM_MAX_TEXT 65536
 #define NOUGHTELM_MAX_OUTPUT 12610
+/* The most that a gain may be on a page, and the most bytes of a page. */
+#define NOUGHTELM_MAX_GAIN 2000000000
+#define NOUGHTELM_MAX_PAGE 3435
 
 #ifdef __cplusplus
 #define NOUGHTELM_HOLDS(fact) static_assert(fact, #fact)
@@ -221,6 +224,33 @@ noughtelm_told noughtelm_refusal_line(uint64_t number, uint64_t line, uint8_t *o
  */
 noughtelm_told noughtelm_sheet_text(const uint8_t *text, size_t text_len, uint8_t *out,
                                     size_t out_len);
+
+/* ---- The page for the kitchen wall (document 02, R-2) */
+
+/*
+ * Writes the page of a board: "batch (3 columns), kettle (2, or `--`), worth (7, 0 if unplaced)
+ * and gain (10, 0 if unplaced)", a line for each bidder that has arrived, with a heading before
+ * each 40. Further cells are kept. Refusals: 13, 8. The value is the number of bytes written.
+ */
+noughtelm_told noughtelm_write_page(noughtelm_auction board, uint8_t *page, size_t page_len);
+
+/*
+ * Reads a page: writes the matching (an item's number, 0 for none), the weights and the gains, a
+ * cell of each list for each bidder on it. Further cells are kept. A page may name an item more
+ * than once. Refusals: 15, 14 with the first bad line as place, 8. The value is the number of
+ * bidders.
+ */
+noughtelm_told noughtelm_read_page(const uint8_t *text, size_t text_len, uint64_t *plan,
+                                   size_t plan_len, uint64_t *weights, size_t weights_len,
+                                   uint64_t *gains, size_t gains_len);
+
+/*
+ * Replays a history text and writes the page of the board that it reaches, or the line of its
+ * refusal: what `./plan --page` prints. Further cells are kept. Refusal: 8. The value is the number
+ * of bytes written.
+ */
+noughtelm_told noughtelm_page_text(const uint8_t *text, size_t text_len, uint8_t *out,
+                                   size_t out_len);
 
 /* ---- The layout that the library has */
 

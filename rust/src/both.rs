@@ -13,6 +13,8 @@ use std::collections::BTreeMap;
 use std::fmt::Debug;
 use std::hint::black_box;
 
+pub mod pages;
+
 /// What both sides agree on, or how they differ.
 pub type Same<T> = Result<T, String>;
 

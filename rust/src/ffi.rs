@@ -11,6 +11,9 @@ pub const MAX_CELLS: usize = MAX_ITEMS * MAX_BIDDERS;
 pub const MAX_EDGES: usize = MAX_ITEMS + 1;
 /// No output of a text is longer.
 pub const MAX_OUTPUT: usize = 12_610;
+/// No page is longer: a line of 26 bytes for each bidder, a heading of as many, and
+/// three headings after a form feed.
+pub const MAX_PAGE: usize = 3_435;
 
 /// q-ths of a penny.
 #[repr(C)]
@@ -160,6 +163,23 @@ mod raw {
             out: *mut u8,
             out_len: usize,
         ) -> Told;
+        pub fn noughtelm_write_page(board: Auction, page: *mut u8, page_len: usize) -> Told;
+        pub fn noughtelm_read_page(
+            text: *const u8,
+            len: usize,
+            plan: *mut u64,
+            plan_len: usize,
+            weights: *mut u64,
+            weights_len: usize,
+            gains: *mut u64,
+            gains_len: usize,
+        ) -> Told;
+        pub fn noughtelm_page_text(
+            text: *const u8,
+            len: usize,
+            out: *mut u8,
+            out_len: usize,
+        ) -> Told;
     }
 }
 
@@ -260,4 +280,31 @@ pub fn refusal_line(number: u64, line: u64, out: &mut [u8]) -> Told {
 /// Writes what the program prints, a plan or a refusal; the value is the bytes.
 pub fn sheet_text(text: &[u8], out: &mut [u8]) -> Told {
     unsafe { raw::noughtelm_sheet_text(text.as_ptr(), text.len(), out.as_mut_ptr(), out.len()) }
+}
+
+/// Writes the board's page; the value is the bytes.
+pub fn write_page(board: Auction, page: &mut [u8]) -> Told {
+    unsafe { raw::noughtelm_write_page(board, page.as_mut_ptr(), page.len()) }
+}
+
+/// Reads a page and writes its matching, weights and gains; the place is the bad line,
+/// the value the bidders.
+pub fn read_page(text: &[u8], plan: &mut [u64], weights: &mut [u64], gains: &mut [u64]) -> Told {
+    unsafe {
+        raw::noughtelm_read_page(
+            text.as_ptr(),
+            text.len(),
+            plan.as_mut_ptr(),
+            plan.len(),
+            weights.as_mut_ptr(),
+            weights.len(),
+            gains.as_mut_ptr(),
+            gains.len(),
+        )
+    }
+}
+
+/// Replays a text and writes its page, or the line of its refusal; the value is the bytes.
+pub fn page_text(text: &[u8], out: &mut [u8]) -> Told {
+    unsafe { raw::noughtelm_page_text(text.as_ptr(), text.len(), out.as_mut_ptr(), out.len()) }
 }

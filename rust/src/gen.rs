@@ -1,8 +1,9 @@
-//! Makers of cases: histories, texts, sound and spoilt records, claims.
+//! Makers of cases: histories, texts, sound and spoilt records, claims, pages.
 
 pub mod board;
 pub mod claim;
 pub mod history;
 pub mod list;
+pub mod page;
 pub mod sheet;
 pub mod text;

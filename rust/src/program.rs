@@ -1,5 +1,5 @@
-//! The built program `sheet`, and others, run as processes. The gate builds it
-//! before the tests; where it is missing a run fails.
+//! The built programs `sheet` and `wall`, which prints pages, and others, run as
+//! processes. The gate builds them before the tests; where one is missing a run fails.
 
 use std::io::Write;
 use std::path::{Path, PathBuf};
@@ -10,18 +10,28 @@ pub fn root() -> PathBuf {
     Path::new(env!("CARGO_MANIFEST_DIR")).parent().expect("the tree's folder").to_path_buf()
 }
 
-pub fn path() -> PathBuf {
-    let path = root().join("target/bin/sheet");
+/// The built program of this name.
+pub fn built(name: &str) -> PathBuf {
+    let path = root().join("target/bin").join(name);
     assert!(path.is_file(), "there is no program {}", path.display());
     path
+}
+
+pub fn path() -> PathBuf {
+    built("sheet")
 }
 
 /// The program started by a shell after some commands, such as a limit, and with
 /// some redirections; it is stopped after 20 seconds.
 pub fn command(before: &str, redirections: &str) -> Command {
+    command_of(&path(), before, redirections)
+}
+
+/// The same of any program.
+pub fn command_of(program: &Path, before: &str, redirections: &str) -> Command {
     let mut command = Command::new("sh");
     let script = format!("{before} exec timeout 20 \"$0\" {redirections}");
-    command.arg("-c").arg(script).arg(path());
+    command.arg("-c").arg(script).arg(program);
     command
 }
 

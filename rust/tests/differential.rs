@@ -35,13 +35,14 @@ fn histories_are_many() {
     assert!(Kind::ALL.iter().all(|kind| HISTORIES.iter().any(|(other, _)| kind == other)));
 }
 
-/// The read-out after every call; soundness and the exact level now and then,
-/// less often where there are many bidders.
+/// The read-out after every call; soundness, the page and the exact level now and
+/// then, less often where there are many bidders.
 fn look(both: &mut Both, rng: &mut Rng, last: bool) -> Same<()> {
     let room = rooms(rng, &both.model);
     both.read_out(room)?.ok();
     if last || rng.chance(1, 8 + both.model.arrived) {
         assert!(both.is_sound()?);
+        both.write_page(ffi::MAX_PAGE)?.expect("room for every page");
         both.exact(room)?.ok();
     }
     Ok(())

@@ -4,115 +4,15 @@
 
 use noughtelm_tests::both::shown;
 use noughtelm_tests::gen::text::served_of_length;
-use noughtelm_tests::program::{at_terminal, path, root, run};
+use noughtelm_tests::program::{at_terminal, root};
+use noughtelm_tests::trial::*;
 use std::env;
 use std::fs::{self, File};
-use std::os::unix::fs::{symlink, PermissionsExt};
-use std::path::{Path, PathBuf};
-use std::process::{id, Command, Output, Stdio};
-use std::sync::atomic::{AtomicU64, Ordering};
-use std::sync::Once;
-
-const CASE_1: &[u8] = b"K\t2\t1\t10\nA\t1\t100\t2\t60\nA\t1\t90\n";
-const PLAN_1: &str = "P\t1\t2\t600\nP\t2\t1\t420\nY\t1\t570\nY\t2\t60\nT\t150\t1650\t7\nE\t150\n";
-const UNCHANGED: &str =
-    "cat >/dev/null; echo 'rt: sheet proved (unchanged since it was last proved)'";
-
-/// A folder that is removed at the end.
-struct Folder(PathBuf);
-
-impl Folder {
-    fn new() -> Folder {
-        static MADE: AtomicU64 = AtomicU64::new(0);
-        let name = format!("plan-{}-{}", id(), MADE.fetch_add(1, Ordering::Relaxed));
-        let folder = env::temp_dir().join(name);
-        fs::create_dir(&folder).expect("a folder");
-        Folder(folder)
-    }
-
-    fn join(&self, name: &str) -> PathBuf {
-        self.0.join(name)
-    }
-
-    fn is_empty(&self) -> bool {
-        fs::read_dir(&self.0).expect("the folder").next().is_none()
-    }
-}
-
-impl Drop for Folder {
-    fn drop(&mut self) {
-        let _ = fs::remove_dir_all(&self.0);
-    }
-}
-
-fn script(file: &Path, lines: &str) {
-    fs::write(file, format!("#!/usr/bin/env bash\n{lines}\n")).expect("a script");
-    fs::set_permissions(file, fs::Permissions::from_mode(0o755)).expect("a script");
-}
-
-/// A tree with ./plan, the built program, and a stand-in for `rt`.
-fn tree(rt: &str) -> Folder {
-    let tree = Folder::new();
-    for folder in ["target/bin", "target/stamp", "tools"] {
-        fs::create_dir_all(tree.join(folder)).expect("a folder");
-    }
-    fs::write(tree.join("target/stamp/sheet"), "").expect("a stamp");
-    fs::copy(root().join("plan"), tree.join("plan")).expect("the command");
-    fs::copy(path(), tree.join("target/bin/sheet")).expect("the program");
-    script(&tree.join("tools/rt"), rt);
-    tree
-}
-
-/// ./plan of such a tree.
-fn command(tree: &Folder) -> Command {
-    let mut paths = vec![tree.join("tools")];
-    paths.extend(env::split_paths(&env::var_os("PATH").expect("PATH")));
-    let mut command = Command::new(tree.join("plan"));
-    command.env("PATH", env::join_paths(paths).expect("folders"));
-    command
-}
-
-/// What came of a run: status, standard output, standard error.
-type Came = (i32, String, String);
-
-fn came(output: Output) -> Came {
-    let text = |bytes| String::from_utf8(bytes).expect("text");
-    (output.status.code().unwrap_or(-1), text(output.stdout), text(output.stderr))
-}
-
-/// Runs a command on a text; it must leave no temporary file.
-fn given(mut command: Command, text: &[u8]) -> Came {
-    let left = Folder::new();
-    command.env("TMPDIR", &left.0);
-    let came = came(run(command, text));
-    assert!(left.is_empty(), "a temporary file is left");
-    came
-}
+use std::os::unix::fs::symlink;
+use std::process::{Command, Stdio};
 
 fn planned(text: &[u8]) -> Came {
     given(command(&tree(UNCHANGED)), text)
-}
-
-/// The tree's own ./plan, with its program built.
-fn own() -> Command {
-    static BUILT: Once = Once::new();
-    let plan = || Command::new(root().join("plan"));
-    BUILT.call_once(|| assert_eq!(came(run(plan(), CASE_1)).0, 0));
-    plan()
-}
-
-fn own_with(arguments: &[&str], text: &[u8]) -> Came {
-    let mut command = own();
-    command.args(arguments);
-    given(command, text)
-}
-
-fn nothing_planned(came: Came, words: &str) {
-    assert_eq!((came.0, came.1.as_str(), came.2.as_str()), (2, "", words));
-}
-
-fn served() -> Came {
-    (0, PLAN_1.into(), String::new())
 }
 
 // ---- what it answers
@@ -213,7 +113,7 @@ fn each_bad_line_in_words() {
 fn help() {
     let (status, page, words) = own_with(&["--help"], b"");
     assert_eq!((status, words.as_str()), (0, ""));
-    for part in ["./plan [FILE]", "  K  ", "  A  ", "  W  ", "  0  ", "  1  ", "  2  "] {
+    for part in ["./plan [FILE]", "--page", "  K  ", "  A  ", "  W  ", "  0  ", "  1  ", "  2  "] {
         assert!(page.contains(part), "{part}");
     }
 }
@@ -253,12 +153,6 @@ fn a_file_that_cannot_be_read() {
     let named = folder.to_str().expect("a name");
     nothing_planned(own_with(&[named], CASE_1), &format!("plan: {named}: this is a folder\n"));
     nothing_planned(own_with(&["no"], CASE_1), "plan: no: there is no such file\n");
-}
-
-fn by_shell(redirection: &str) -> Command {
-    let mut command = Command::new("sh");
-    command.arg("-c").arg(format!("exec \"$0\" {redirection}")).arg(own().get_program());
-    command
 }
 
 #[test]
@@ -350,16 +244,6 @@ fn a_program_that_ends_badly() {
         script(&tree.join("target/bin/sheet"), lines);
         nothing_planned(given(command(&tree), CASE_1), words);
     }
-}
-
-/// ./plan of such a tree, with no signal ignored: a shell cannot trap one that was
-/// ignored when it started, as where the tests are run in the background.
-fn stoppable(tree: &Folder) -> Command {
-    let plan = command(tree);
-    let mut command = Command::new("env");
-    command.arg("--default-signal=HUP,INT,TERM").arg(plan.get_program());
-    command.envs(plan.get_envs().filter_map(|(name, value)| Some((name, value?))));
-    command
 }
 
 #[test]

@@ -71,6 +71,10 @@ fn assert_spoilt(record: &Record, what: &str) {
     assert_eq!(exact_record(record, m, y, g), Err(spoilt), "{what}");
     assert_eq!(check_record(record, &claim), Err(spoilt), "{what}");
     assert_eq!(lists, [[MARK; 200]; 3]);
+    let mut page = [0xab; 4_000];
+    assert_eq!(write_page_record(record, &mut page[..0]), Err(spoilt), "{what}");
+    assert_eq!(write_page_record(record, &mut page), Err(spoilt), "{what}");
+    assert_eq!(page, [0xab; 4_000]);
     assert!(&after == record);
 }
 

@@ -3,6 +3,7 @@
 //! such a board answers 13 and changes no byte.
 
 use noughtelm_tests::both::{rooms, wide, Both, Same, Tally};
+use noughtelm_tests::ffi::MAX_PAGE;
 use noughtelm_tests::gen::board::{self, Unused};
 use noughtelm_tests::gen::list::rising;
 use noughtelm_tests::model::auction::*;
@@ -11,7 +12,7 @@ use noughtelm_tests::model::refusal::*;
 use noughtelm_tests::model::sound::Record;
 use noughtelm_tests::rng::Rng;
 
-const CALLS: [&str; 5] = ["arrive", "withdraw", "read out", "exact", "check"];
+const CALLS: [&str; 6] = ["arrive", "withdraw", "read out", "exact", "check", "write page"];
 
 fn empty_claim(slack: Slack) -> Claim {
     Claim { matching: vec![], price: vec![], gain: vec![], slack }
@@ -34,6 +35,7 @@ fn ask(both: &mut Both, rng: &mut Rng) -> Same<u64> {
     note(both.exact(room)?.err());
     let slack = rng.pick(&[both.model.slack, Slack { p: 0, q: 1 }, Slack { p: 5, q: 5 }]);
     note(both.check(&empty_claim(slack))?.err());
+    note(both.write_page(if room == [0; 3] { 0 } else { MAX_PAGE })?.err());
     Ok(spoilt)
 }
 
@@ -108,6 +110,7 @@ fn changed_numbers() {
     seen.assert_seen("read out", &[0, SPOILT, SHORT], 100);
     seen.assert_seen("exact", &[0, SPOILT, SHORT], 100);
     seen.assert_seen("check", &[0, SPOILT, SLACK, UNEVEN], 2);
+    seen.assert_seen("write page", &[0, SPOILT, SHORT], 100);
 }
 
 #[test]

@@ -2,6 +2,7 @@
 //! pair's (q + p) times its weight split at random, uncovered edges lowered.
 
 use noughtelm_tests::both::{rooms, wide, Both, Same, Tally};
+use noughtelm_tests::ffi::MAX_PAGE;
 use noughtelm_tests::gen::{board, claim, list};
 use noughtelm_tests::laws::on_board;
 use noughtelm_tests::model::auction::*;
@@ -45,6 +46,7 @@ fn look(both: &mut Both, rng: &mut Rng) -> Same<()> {
     on_board(&both.ours)?;
     let room = rooms(rng, &both.model);
     both.read_out(room)?.ok();
+    both.write_page(MAX_PAGE)?.expect("a sound board and room");
     let exact = both.exact(wide())?.expect("a sound board and room");
     let auction = from_record(&both.model).expect("a sound board");
     both.check(&claim::own(&auction))?.ok();

@@ -2,5 +2,6 @@ pub mod Skips
 pub mod Table
 pub mod Ties
 pub mod Text
+pub mod Pages
 pub mod FullBoard
 pub mod Refused

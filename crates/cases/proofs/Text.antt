@@ -31,6 +31,10 @@ use Rattle.replay.specs.Replay.{afterArrived, afterArrival, afterWithdrawn, aft
 use Rattle.auction.proofs.Demand2.{arrive-demand-2, withdraw-demand-2}
 use Rattle.history.specs.Output.{bidderLines, itemLines, outputOf}
 use Rattle.history.specs.Plan.{sheetOf, printedBy, printed}
+use Rattle.layout.specs.Page.{padded, heading, rowLine, breaks}
+use Rattle.page.specs.Rows.{boardPage}
+use Rattle.history.specs.Wall.{wallBy, wallFrom, wallOf}
+use Rattle.cases.specs.Pages.{head, line1, line2, line2Unplaced}
 use Rattle.cases.specs.Text.{text1, printed1, text2, printed2, textTied, printedTied, firstLine1, texts, Texts, Starred}
 use Rattle.cases.proofs.Skips.{arrive-skips, withdraw-skips, ready-sound}
 use Rattle.cases.proofs.Table.{cases}
@@ -100,10 +104,22 @@ Opens s = replayOf s ≡ linesFrom (suc (length s)) s 9 2 (openOf 2 1 10 .auctio
 abbrev Prints : List ℕ → List ℕ → Type 0
 Prints s out = printed (skipLines (suc (length s)) s 9 2 (openOf 2 1 10 .auction) 0) ≡ out
 
--- A text that opens such a board prints what its further lines give, without the test
+-- Its further lines, without the test
+opens-skip : (s : List ℕ) → Opens s → replayOf s ≡ skipLines (suc (length s)) s 9 2 (openOf 2 1 10 .auction) 0
+opens-skip s e = e ∙ lines-skip (suc (length s)) s 9 2 (openOf 2 1 10 .auction) 0 sound-1
+
+-- A text that opens such a board prints what its further lines give
 opens-so : (s out : List ℕ) → Opens s → Prints s out → sheetOf s ≡ out
 unfolding sheetOf
-opens-so s out e f = ap printed (e ∙ lines-skip (suc (length s)) s 9 2 (openOf 2 1 10 .auction) 0 sound-1) ∙ f
+opens-so s out e f = ap printed (opens-skip s e) ∙ f
+
+-- R-2: what they print on paper
+abbrev PrintsPage : List ℕ → List ℕ → Type 0
+PrintsPage s out = wallFrom (skipLines (suc (length s)) s 9 2 (openOf 2 1 10 .auction) 0) ≡ out
+
+opens-page : (s out : List ℕ) → Opens s → PrintsPage s out → wallOf s ≡ out
+unfolding wallOf
+opens-page s out e f = ap wallFrom (opens-skip s e) ∙ f
 
 -- The texts of the table that open such a board, in its order
 all-open : Opens text1 × Opens text2 × Opens textTied × Opens (firstLine1 ++ (65 ∷ 9 ∷ 51 ∷ 9 ∷ 53 ∷ 10 ∷ [])) × Opens (firstLine1 ++ ((87 ∷ 9 ∷ 49 ∷ 10 ∷ []) ++ (87 ∷ 9 ∷ 49 ∷ 10 ∷ []))) ×
@@ -121,6 +137,16 @@ unfolding
     heldBy edgeCount offerOf bestOf placedAt displaced handOver bidOf settleOf firstOf withinTest orderTest edgeChecks edgesChecks rowTo carryOut
     opened slackTest openBy openOf arriveRest entered arrivalOf arrivedOf arriveBy withdrawRest released withdrawalOf withdrawnOf withdrawBy
 all-print = (refl, refl, refl, refl, refl, refl, refl)
+
+all-paper : PrintsPage text1 (head ++ (line1 ++ line2)) × PrintsPage text2 (head ++ (line1 ++ line2Unplaced))
+unfolding
+    skipLines skipOut lineAt fieldsAt fieldAt commandOf pairsOf afterArrival afterArrived afterWithdrawal afterWithdrawn wallFrom wallBy boardPage decimal padded heading rowLine breaks
+    heldBy edgeCount offerOf bestOf placedAt displaced handOver bidOf settleOf firstOf withinTest orderTest edgeChecks edgesChecks rowTo carryOut
+    opened slackTest openBy openOf arriveRest entered arrivalOf arrivedOf arriveBy withdrawRest released withdrawalOf withdrawnOf withdrawBy
+all-paper = (refl, refl)
+
+pub walls-print : (wallOf text1 ≡ head ++ (line1 ++ line2)) × (wallOf text2 ≡ head ++ (line1 ++ line2Unplaced))
+walls-print = (opens-page _ _ (all-open .0) (all-paper .0), opens-page _ _ (all-open .1) (all-paper .1))
 
 -- Refused at the first line, or without one
 slack-refused : sheetOf (75 ∷ 9 ∷ 50 ∷ 9 ∷ 53 ∷ 9 ∷ 53 ∷ 10 ∷ []) ≡ 82 ∷ 9 ∷ 50 ∷ 9 ∷ 49 ∷ 10 ∷ []

@@ -3,5 +3,6 @@ pub mod Play
 pub mod Table
 pub mod Ties
 pub mod Text
+pub mod Pages
 pub mod FullBoard
 pub mod Refused

@@ -19,6 +19,9 @@ use Rattle.hungarian.specs.declared.exact.Greatest.{Greatest}
 use Rattle.hungarian.specs.Exact.{exactTold, ExactOutcome}
 use Rattle.history.specs.Plan.{PlanOutcome}
 use Rattle.history.specs.Demand1.{plannedTold}
+use Rattle.layout.specs.Stored.{RowLists}
+use Rattle.page.specs.Writing.{WriteOutcome, writtenTold}
+use Rattle.page.specs.Reading.{RowsOutcome, readTold}
 use Rattle.exports.specs.declared.answers.Answer.{Answer}
 
 abbrev pub withBoard : Auction → Told → Answer
@@ -74,3 +77,19 @@ toldBytes t out = record { told = t; out = out }
 
 abbrev pub planAnswer : PlanOutcome → ToldBytes
 planAnswer o = toldBytes (plannedTold (o .answer)) (o .out)
+
+-- ---- The calls of the page
+
+abbrev pub writeAnswer : WriteOutcome → ToldBytes
+writeAnswer o = toldBytes (writtenTold (o .answer)) (o .page)
+
+-- What is told, and the lists of rows after the call
+pub record ToldRows : Type 0 where
+  pub told : Told
+  pub lists : RowLists
+
+abbrev pub toldRows : Told → RowLists → ToldRows
+toldRows t l = record { told = t; lists = l }
+
+abbrev pub readAnswer : RowsOutcome → ToldRows
+readAnswer o = toldRows (readTold (o .answer)) (o .lists)

@@ -11,6 +11,8 @@ use certificate::Checked;
 use certificate::Totals;
 use history::planning::Planned;
 use hungarian::exact::Greatest;
+use page::reading::PageRead;
+use page::writing::PageWritten;
 use refusals::Refusal;
 use refusals::Told;
 use replay::Ending;
@@ -25,6 +27,8 @@ ghost use Rattle.hungarian.specs.Exact.{exactTold};
 ghost use Rattle.certificate.specs.Check.{checkedTold};
 ghost use Rattle.replay.specs.TextDemand1.{endingTold};
 ghost use Rattle.history.specs.Demand1.{plannedTold};
+ghost use Rattle.page.specs.Writing.{writtenTold};
+ghost use Rattle.page.specs.Reading.{readTold};
 ghost use Rattle.exports.specs.Answers.{withBoard, openAnswer, arrivalAnswer, withdrawalAnswer, replayAnswer};
 
 // What a call answers in numbers, beside a board.
@@ -199,5 +203,25 @@ pub(crate) fn planned_told(answer: Planned) -> Told
     match answer {
         Planned::Written(bytes) => serving(bytes),
         Planned::Refused(refusal, line) => stopping(refusal, line, 0),
+    }
+}
+
+// A written page.
+pub(crate) fn page_written_told(answer: PageWritten) -> Told
+    ensures { λ r. ⌜ r ≡ writtenTold answer ⌝ }
+{
+    match answer {
+        PageWritten::Bytes(bytes) => serving(bytes),
+        PageWritten::Refused(refusal) => refusing(refusal),
+    }
+}
+
+// A page that was read.
+pub(crate) fn page_read_told(answer: PageRead) -> Told
+    ensures { λ r. ⌜ r ≡ readTold answer ⌝ }
+{
+    match answer {
+        PageRead::Rows(rows) => serving(rows),
+        PageRead::Refused(refusal) => refusing(refusal),
     }
 }

@@ -14,7 +14,14 @@ use Rattle.hungarian.proofs.Exacts.{best-on, exact-is-best, exact-keeps, exact-
 use Rattle.certificate.proofs.Demand1.{check-demand-1, check-order}
 use Rattle.history.proofs.Demand1.{plans-demand-1, sheets-demand-1}
 use Rattle.history.proofs.Laws.{plan-ends, printed-figures}
-use Rattle.guarantees.specs.Guarantees.{TableFirst, QuickBids, EqualPairs, Guarantees}
+use Rattle.history.proofs.Walls.{walls-demand-1}
+use Rattle.layout.proofs.Statements.{rows-unique, first-bad-unique, first-bad-exists, read-is-page, read-is-first-bad}
+use Rattle.page.proofs.Rows.{board-is-page, boards-fit, weights-add}
+use Rattle.page.proofs.WriteLaws.{write-demand-1}
+use Rattle.page.proofs.ReadLaws.{read-demand-1}
+use Rattle.page.proofs.Demand1.{page-orders}
+use Rattle.page.proofs.Laws.{writes-said, reads-said, reads-back}
+use Rattle.guarantees.specs.Guarantees.{TableFirst, QuickBids, EqualPairs, KitchenPage, Guarantees}
 use Rattle.guarantees.proofs.Checks.{exact-accepted, equal-totals-best, read-out-accepted}
 
 demand-1 : TableFirst
@@ -32,8 +39,12 @@ demand-1 =
       malformed = line-malformed;
       plans = plans-demand-1;
       sheets = sheets-demand-1;
+      writes-page = write-demand-1;
+      reads-page = read-demand-1;
+      walls = walls-demand-1;
       orders = call-orders;
       check-order = check-order;
+      page-orders = page-orders;
       numbers = codes-apart;
       told = told-apart;
       arrive-ends = arrive-ends;
@@ -73,5 +84,21 @@ demand-3 =
       checked = equal-totals-best;
     }
 
+kitchen-page : KitchenPage
+kitchen-page =
+    record {
+      board = board-is-page;
+      bytes = boards-fit;
+      weights = weights-add;
+      rows = rows-unique;
+      is-page = read-is-page;
+      line = first-bad-exists;
+      line-once = first-bad-unique;
+      is-line = read-is-first-bad;
+      writes = writes-said;
+      reads = reads-said;
+      back = reads-back;
+    }
+
 pub guarantees : Guarantees
-guarantees = record { demand1 = demand-1; demand2 = demand-2; demand3 = demand-3 }
+guarantees = record { demand1 = demand-1; demand2 = demand-2; demand3 = demand-3; page = kitchen-page }

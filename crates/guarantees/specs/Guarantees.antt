@@ -1,4 +1,4 @@
--- The three demands, over what the calls mean. Each field is the sentence above it; the definitions that it names say the rest.
+-- The three demands, and what the customer's requests add, over what the calls mean. Each field is the sentence above it; the definitions that it names say the rest.
 use Rattle.board.specs.declared.record.Auction.{Auction}
 use Rattle.board.specs.Sound.{Sound}
 use Rattle.board.specs.SoundTest.{SoundTestDecides}
@@ -15,6 +15,10 @@ use Rattle.hungarian.specs.Demand3.{EqualExactlyWhenBestOn, ExactGivesDemand3, 
 use Rattle.certificate.specs.Demand1.{CheckDemand1, CheckOrder}
 use Rattle.history.specs.Demand1.{PlansDemand1, SheetsDemand1}
 use Rattle.history.specs.Laws.{PlanEnds, PrintedFigures}
+use Rattle.history.specs.Wall.{WallsDemand1}
+use Rattle.layout.specs.Statements.{RowsUnique, FirstBadUnique, FirstBadExists, ReadIsPage, ReadIsFirstBad}
+use Rattle.page.specs.Demand1.{WriteDemand1, ReadDemand1, PageOrders}
+use Rattle.page.specs.Laws.{BoardIsPage, BoardsFit, WeightsAdd, WritesSaid, ReadsSaid, ReadsBack}
 use Rattle.guarantees.specs.Checks.{ExactAccepted, EqualTotalsBest, ReadOutAccepted}
 
 -- Demand 1
@@ -34,9 +38,14 @@ pub record TableFirst : Type 0 where
   pub malformed : LineMalformed
   pub plans : PlansDemand1
   pub sheets : SheetsDemand1
+  -- R-2: of a page that is written, of one that is read, and of the page of the board that a text reaches
+  pub writes-page : WriteDemand1
+  pub reads-page : ReadDemand1
+  pub walls : WallsDemand1
   -- "by the stated order of checks": the order of each call's checks, in numbers and places
   pub orders : CallOrders
   pub check-order : CheckOrder
+  pub page-orders : PageOrders
   -- "A refusal returns number and place": no two refusals have both in common, so that they name one row; and what is told names one answer
   pub numbers : CodesApart
   pub told : ToldApart
@@ -93,7 +102,29 @@ pub record EqualPairs : Type 0 where
   pub accepted : ExactAccepted
   pub checked : EqualTotalsBest
 
+-- R-2, the page for the kitchen wall
+pub record KitchenPage : Type 0 where
+  -- Every sound board has a page within the limits, of 3,435 bytes at most; its worths add up to the plan's
+  pub board : BoardIsPage
+  pub bytes : BoardsFit
+  pub weights : WeightsAdd
+  -- A text is the page of one list of rows at most, and what is read of a text is the rows of which it is the page
+  pub rows : RowsUnique
+  pub is-page : ReadIsPage
+  -- "a text not of this form is 14 at its first bad line (the one after the last, if it stops short)": there is one exactly where the text is no page,
+  -- there is one only, and it is the computed one
+  pub line : FirstBadExists
+  pub line-once : FirstBadUnique
+  pub is-line : ReadIsFirstBad
+  -- What writing and reading answer, case by case: "8 if the lent page is too short, after 13"; "14 at its first bad line .., after 15, then 8 for lists
+  -- too short"
+  pub writes : WritesSaid
+  pub reads : ReadsSaid
+  -- "The page must read back to the same plan, worths and gains"
+  pub back : ReadsBack
+
 pub record Guarantees : Type 0 where
   pub demand1 : TableFirst
   pub demand2 : QuickBids
   pub demand3 : EqualPairs
+  pub page : KitchenPage

@@ -5,3 +5,4 @@ pub mod Plans
 pub mod Demand1
 pub mod Laws
 pub mod Sheets
+pub mod Walls

@@ -3,3 +3,4 @@ pub mod Laws
 pub mod Limits
 pub mod Output
 pub mod Plan
+pub mod Wall

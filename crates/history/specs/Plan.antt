@@ -56,10 +56,14 @@ printed (done r) = printedBy (r .auction) (r .bids) (r .answer)
 unfoldable pub sheetOf : List ℕ → List ℕ
 sheetOf s = printed (replayOf s)
 
--- The first n bytes of a list are what the program prints of a text, and the list's further cells are as they were
-pub record SheetWritten (s before after : List ℕ) (n : ℕ) : Type 0 where
+-- The first n bytes of a list are these, and the list's further cells are as they were
+pub record AtFront (front before after : List ℕ) (n : ℕ) : Type 0 where
   -- These two let a caller take those bytes as a part
   pub fits : n ≤ length after
   pub long : n ≡ length (take n after)
-  pub bytes : take n after ≡ sheetOf s
-  pub list : after ≡ sheetOf s ++ drop n before
+  pub bytes : take n after ≡ front
+  pub list : after ≡ front ++ drop n before
+
+-- They are what the program prints of a text
+abbrev pub SheetWritten : List ℕ → List ℕ → List ℕ → ℕ → Type 0
+SheetWritten s before after n = AtFront (sheetOf s) before after n

@@ -44,7 +44,7 @@ fn copy(page: &[u8], n: usize, out: &mut [u8])
 }
 
 // A page's first n bytes, written where there is room for all of them.
-fn fit(page: &[u8; MAX_OUTPUT], n: usize, out: &mut [u8]) -> Planned
+pub(crate) fn fit(page: &[u8; MAX_OUTPUT], n: usize, out: &mut [u8]) -> Planned
     requires { ⌜ n ≤ length (now page) ⌝ }
     ensures { λ r. ⌜ planned r (now (out .exit)) ≡ fitted (take n (now (page .entry))) (now (out .entry)) ⌝ }
 {
@@ -96,7 +96,7 @@ pub fn plan_text(text: &[u8], out: &mut [u8]) -> Planned
 }
 
 // "`R`, number, line", at the front of a page.
-fn put_refusal(number: u64, line: u64, page: &mut [u8]) -> usize
+pub(crate) fn put_refusal(number: u64, line: u64, page: &mut [u8]) -> usize
     ensures { λ r. ⌜ Put (now (page .entry)) (now (page .exit)) 0 (refusalLine number line) r × (r ≤ maxLine) ⌝ }
 {
     put_line(page, 0, b'R', [number, line, 0], 2)

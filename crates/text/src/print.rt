@@ -22,7 +22,7 @@ const WIDE_DIGITS: usize = 20;
 // The most bytes of a line that is written: a letter, a tab and a number for each field, a newline.
 pub const MAX_LINE: usize = 1 + LINE_FIELDS * (1 + WIDE_DIGITS) + 1;
 
-fn put_byte(out: &mut [u8], at: usize, byte: u8) -> usize
+pub fn put_byte(out: &mut [u8], at: usize, byte: u8) -> usize
     requires { ⌜ at + 1 < 2 ^ 64 ⌝ }
     ensures { λ r. ⌜ Put (now (out .entry)) (now (out .exit)) at (byte ∷ []) r ⌝ }
 {
@@ -33,7 +33,7 @@ fn put_byte(out: &mut [u8], at: usize, byte: u8) -> usize
     at + 1
 }
 
-fn digit(d: u64) -> u8
+pub fn digit(d: u64) -> u8
     requires { ⌜ d < 10 ⌝ }
     ensures { λ r. ⌜ r ≡ 48 + d ⌝ }
 {

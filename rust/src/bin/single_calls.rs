@@ -37,4 +37,10 @@ fn main() {
     println!("replay {}", replay(black_box(&text)).value);
     println!("plan of the text {}", plan_text(black_box(&text), &mut page).value);
     println!("what is printed of it {}", sheet_text(black_box(&text), &mut page).value);
+    println!("its page {}", page_text(black_box(&text), &mut page).value);
+    let written = write_page(black_box(board), &mut page).value as usize;
+    println!("the board's page {written}");
+    let mut weights = [0; MAX_BIDDERS];
+    let read = read_page(black_box(&page[..written]), &mut plan, &mut weights, &mut gains);
+    println!("the page read back {}", read.value);
 }

@@ -6,6 +6,7 @@ use super::check::{check, Claim, Totals};
 use super::hungarian;
 use super::refusal::*;
 use super::sound::{from_record, to_record, Record};
+use crate::page;
 
 pub fn open_record(items: u64, slack: Slack) -> Result<Record, Refusal> {
     Auction::open(items, slack).map(|auction| to_record(&auction))
@@ -56,4 +57,35 @@ pub fn exact_record(
 
 pub fn check_record(record: &Record, claim: &Claim) -> Result<Totals, Refusal> {
     check(&from_record(record)?, claim)
+}
+
+/// "Answers when writing: 8 if the lent page is too short, after 13. Writing returns
+/// the bytes written"; "further cells keep what they held".
+pub fn write_page_record(record: &Record, lent: &mut [u8]) -> Result<u64, Refusal> {
+    let written = page::write(&page::rows(&from_record(record)?));
+    if lent.len() < written.len() {
+        return refuse(SHORT, 0);
+    }
+    lent[..written.len()].copy_from_slice(&written);
+    Ok(written.len() as u64)
+}
+
+/// The refusals of the text itself, "then 8 for lists too short". Reading returns "the
+/// number of batches"; "further cells keep what they held".
+pub fn read_page(
+    text: &[u8],
+    matching: &mut [u64],
+    weight: &mut [u64],
+    gain: &mut [u64],
+) -> Result<u64, Refusal> {
+    let rows = page::read(text)?;
+    if matching.len() < rows.len() || weight.len() < rows.len() || gain.len() < rows.len() {
+        return refuse(SHORT, 0);
+    }
+    for (index, row) in rows.iter().enumerate() {
+        matching[index] = row.item;
+        weight[index] = row.weight;
+        gain[index] = row.gain;
+    }
+    Ok(rows.len() as u64)
 }

@@ -3,6 +3,7 @@
 use super::auction::*;
 use super::hungarian;
 use super::refusal::*;
+use crate::page;
 
 pub const MAX_TEXT: usize = 65_536;
 pub const MAX_DIGITS: usize = 7;
@@ -18,6 +19,17 @@ pub fn sheet(text: &[u8]) -> Vec<u8> {
     let mut out = Vec::new();
     match replay(text) {
         Ok((auction, bids)) => report(&auction, bids, &mut out),
+        Err(refusal) => put_line(&mut out, b'R', &[refusal.number, refusal.place]),
+    }
+    out
+}
+
+/// What the program prints for this text where a page is wanted: that of the board
+/// it comes to, or its refusal as above.
+pub fn page_of(text: &[u8]) -> Vec<u8> {
+    let mut out = Vec::new();
+    match replay(text) {
+        Ok((auction, _)) => out = page::write(&page::rows(&auction)),
         Err(refusal) => put_line(&mut out, b'R', &[refusal.number, refusal.place]),
     }
     out
