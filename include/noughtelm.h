@@ -14,10 +14,11 @@
  *    1      "count"    0                                  "kettles to open not 1 to 64"
  *    2      "slack"    0                                  "p or q outside its range"
  *    3      "full"     0                                  "128 batches have arrived"
- *    4      "unknown"  "entry, else 0"                    "kettle not 1 to k"
- *    5      "gone"     "entry, else 0"                    "kettle withdrawn"
+ *    4      "unknown"  "entry", or item of a withdrawal   "kettle not 1 to k"
+ *    5      "gone"     "entry", or item of a withdrawal   "kettle withdrawn"
  *    6      "worth"    "entry"                            "not 1 to 1,000,000"
- *    7      "order"    "entry"                            "kettle not above the entry before"
+ *    7      "order"    "entry", or item of a withdrawal   "kettle not above the entry before", or the
+ *                                                          item before
  *    8      "short"    0                                  "a list to be written has too few cells"
  *    9      "uneven"   0                                  "a list to be checked has another length"
  *   10      "clash"    "batch"                            "cell neither 0 nor a kettle's number, or its
@@ -30,9 +31,10 @@
  *   14      "line"     "line"                             "text not of the form below"
  *   15      "long"     0                                  "text above 65,536 bytes"
  *
- * Edges count from 1 in their list. Of a text every refusal but 8 and 15 has its line as place.
- * A refused call hands the board back as it was, and leaves every lent list as it was. Where
- * several are met, the first in the order given at the call is answered.
+ * Edges count from 1 in their list, and so do the items of a withdrawal. Of a text every refusal
+ * but 8 and 15 has its line as place. A refused call hands the board back as it was, and leaves
+ * every lent list as it was. Where several are met, the first in the order given at the call is
+ * answered.
  *
  * How a list crosses: as a pointer to its first cell and the number of its cells, two arguments
  * side by side. No call takes a pointer without a number. Boards and answers cross by value.
@@ -158,9 +160,14 @@ noughtelm_answer noughtelm_arrive(noughtelm_auction board, const noughtelm_edge 
 noughtelm_answer noughtelm_arrive_buffer(noughtelm_auction board, noughtelm_edge_buffer buffer);
 
 /*
- * An item is withdrawn. Refusals: 13, 4, 5, with place 0. The value is the number of bids.
+ * A list of items is withdrawn, in strictly rising order (document 02, R-3): "All go first; then
+ * the displaced batches bid in number order, each chain run to its end". The list may be empty,
+ * which changes nothing, and is only read. Refusals: 13, then item by item 4, 5, 7, with the
+ * item's place in the list; nothing is withdrawn then. Whether an item is gone is read off the
+ * board handed in: one that is not, named twice, is 7. The value is the number of bids.
  */
-noughtelm_answer noughtelm_withdraw(noughtelm_auction board, uint64_t item);
+noughtelm_answer noughtelm_withdraw(noughtelm_auction board, const uint64_t *items,
+                                    size_t items_len);
 
 /* Whether a board is sound. */
 bool noughtelm_is_sound(noughtelm_auction board);

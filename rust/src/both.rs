@@ -14,6 +14,7 @@ use std::fmt::Debug;
 use std::hint::black_box;
 
 pub mod pages;
+pub mod watched;
 
 /// What both sides agree on, or how they differ.
 pub type Same<T> = Result<T, String>;
@@ -217,11 +218,13 @@ impl Both<'_> {
         Ok(expected)
     }
 
-    pub fn withdraw(&mut self, item: u64) -> Same<Result<u64, Refusal>> {
-        let after = ffi::withdraw(self.ours, item);
-        let expected = withdraw_record(&mut self.model, item);
+    pub fn withdraw(&mut self, items: &[u64]) -> Same<Result<u64, Refusal>> {
+        let list = items.to_vec();
+        let after = ffi::withdraw(self.ours, &list);
+        let expected = withdraw_record(&mut self.model, items);
         self.seen.note("withdraw", &expected);
         equal("withdraw", after.told(), told(expected))?;
+        equal("withdraw, the list of items kept", &black_box(list)[..], items)?;
         self.accept("withdraw", after.board)?;
         Ok(expected)
     }

@@ -117,7 +117,7 @@ mod raw {
         pub fn noughtelm_open(items: u64, p: u64, q: u64) -> Answer;
         pub fn noughtelm_arrive(board: Auction, edges: *const Edge, len: usize) -> Answer;
         pub fn noughtelm_arrive_buffer(board: Auction, buffer: EdgeBuffer) -> Answer;
-        pub fn noughtelm_withdraw(board: Auction, item: u64) -> Answer;
+        pub fn noughtelm_withdraw(board: Auction, items: *const u64, len: usize) -> Answer;
         pub fn noughtelm_is_sound(board: Auction) -> bool;
         pub fn noughtelm_read_out(
             board: Auction,
@@ -198,9 +198,9 @@ pub fn arrive_buffer(board: Auction, buffer: EdgeBuffer) -> Answer {
     unsafe { raw::noughtelm_arrive_buffer(board, buffer) }
 }
 
-/// An item is withdrawn; the value is the number of bids.
-pub fn withdraw(board: Auction, item: u64) -> Answer {
-    unsafe { raw::noughtelm_withdraw(board, item) }
+/// A list of items of any length is withdrawn; the value is the number of bids.
+pub fn withdraw(board: Auction, items: &[u64]) -> Answer {
+    unsafe { raw::noughtelm_withdraw(board, items.as_ptr(), items.len()) }
 }
 
 /// Whether a board is sound.

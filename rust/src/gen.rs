@@ -3,6 +3,7 @@
 pub mod board;
 pub mod claim;
 pub mod history;
+pub mod items;
 pub mod list;
 pub mod page;
 pub mod sheet;

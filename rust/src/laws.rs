@@ -55,6 +55,13 @@ fn nobody_is_left_out(b: &ffi::Auction) -> Law {
     Ok(())
 }
 
+/// "Over every history from opening, the bids number at most the entries ever
+/// accepted times the whole part of (q - 1)/p".
+pub fn bids_are_bounded(b: &ffi::Auction, accepted: u64, bids: u64) -> Law {
+    let most = accepted * ((b.slack.q - 1) / b.slack.p);
+    require(bids <= most, || format!("{bids} bids, at most {most} are allowed"))
+}
+
 pub fn require(holds: bool, told: impl Fn() -> String) -> Law {
     match holds {
         true => Ok(()),

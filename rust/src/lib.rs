@@ -1,12 +1,13 @@
-//! A second implementation of document 01 and of of document 02, for
+//! A second implementation of document 01 and of of document 02, for
 //! comparison with the proved one.
 //!
 //! `model` says what every call answers, simply and slowly; `page` writes and
 //! reads the page of R-2; `fast` is a plain Rust program for the same text, the
 //! yardstick for speed; `gen` makes cases; `ffi` calls the proved one; `both` calls
 //! the proved one and the model and compares; `laws` are those of every sound
-//! board; `ties` bids one by one and counts what stood equal; `program` runs the
-//! built program; `trial` runs the command ./plan.
+//! board; `ties` bids one by one and counts what stood equal; `orders` withdraws
+//! so, in R-3's order and in others; `program` runs the built program; `trial` runs
+//! the command ./plan.
 
 pub mod both;
 pub mod fast;
@@ -14,6 +15,7 @@ pub mod ffi;
 pub mod gen;
 pub mod laws;
 pub mod model;
+pub mod orders;
 pub mod page;
 pub mod program;
 pub mod rng;

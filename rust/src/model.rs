@@ -1,4 +1,4 @@
-//! The model: document 01, with of document 02, in its plainest form.
+//! The model: document 01, with of document 02, in its plainest form.
 
 pub mod auction;
 pub mod calls;

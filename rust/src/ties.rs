@@ -4,6 +4,7 @@
 
 use crate::gen::history::{Call, History};
 use crate::model::auction::*;
+use crate::orders::Order;
 use std::ops::AddAssign;
 
 /// A live edge of a bidder that bids.
@@ -95,51 +96,60 @@ pub fn by_pairs(offers: &[Offer]) -> Option<Offer> {
 pub struct Walk {
     pub auction: Auction,
     pub ties: Ties,
+    /// Who bid, bid by bid, from 0.
+    pub bidders: Vec<usize>,
     rule: Rule,
 }
 
 impl Walk {
     pub fn open(history: &History, rule: Rule) -> Walk {
         let auction = Auction::open(history.items, history.slack).expect("it opens");
-        Walk { auction, ties: Ties::default(), rule }
+        Walk::on(auction, rule)
+    }
+
+    pub fn on(auction: Auction, rule: Rule) -> Walk {
+        Walk { auction, ties: Ties::default(), bidders: Vec::new(), rule }
     }
 
     /// The call's bids.
     pub fn call(&mut self, call: &Call) -> u64 {
+        let before = self.ties.bids;
         match call {
             Call::Arrive(edges) => {
                 self.auction.bidders.push(Bidder { edges: edges.clone(), gain: 0, item: 0 });
-                self.chain(Some(self.auction.bidders.len() - 1))
+                self.chain(self.auction.bidders.len() - 1);
             }
-            Call::Withdraw(item) => {
-                let holder = self.auction.holder(*item);
-                self.displace(holder);
-                self.auction.items[*item as usize - 1] = Item { price: 0, withdrawn: true };
-                self.chain(holder)
-            }
-        }
-    }
-
-    /// "Its gain becomes that utility. The kettle's price then rises by p × w. The
-    /// batch that held the kettle, if any, is displaced, its gain becomes 0, and it
-    /// bids next."
-    fn chain(&mut self, mut bidding: Option<usize>) -> u64 {
-        let before = self.ties.bids;
-        while let Some(bidder) = bidding {
-            let offers = offers(&self.auction, bidder);
-            let Some(taken) = (self.rule)(&offers) else { break };
-            self.ties.note(&offers, taken);
-            let Edge { item, weight } = taken.edge;
-            bidding = self.auction.holder(item);
-            self.displace(bidding);
-            self.auction.bidders[bidder].item = item;
-            self.auction.bidders[bidder].gain = taken.utility as u64;
-            self.auction.items[item as usize - 1].price += self.auction.slack.p * weight;
+            Call::Withdraw(items) => self.withdraw(items, Order::Number),
         }
         self.ties.bids - before
     }
 
-    fn displace(&mut self, holder: Option<usize>) {
+    /// A bidder's bid, and those of the bidders that it displaces, to the end.
+    pub fn chain(&mut self, bidder: usize) {
+        let mut bidding = Some(bidder);
+        while let Some(bidder) = bidding {
+            bidding = self.bid(bidder);
+        }
+    }
+
+    /// One bid, if an edge is open, and the bidder that it displaces, if any. "Its gain
+    /// becomes that utility. The kettle's price then rises by p × w. The batch that held
+    /// the kettle, if any, is displaced, its gain becomes 0, and it bids next."
+    pub fn bid(&mut self, bidder: usize) -> Option<usize> {
+        let offers = offers(&self.auction, bidder);
+        let taken = (self.rule)(&offers)?;
+        self.ties.note(&offers, taken);
+        self.bidders.push(bidder);
+        let Edge { item, weight } = taken.edge;
+        let displaced = self.auction.holder(item);
+        self.displace(displaced);
+        self.auction.bidders[bidder].item = item;
+        self.auction.bidders[bidder].gain = taken.utility as u64;
+        self.auction.items[item as usize - 1].price += self.auction.slack.p * weight;
+        displaced
+    }
+
+    pub fn displace(&mut self, holder: Option<usize>) {
         if let Some(holder) = holder {
             self.auction.bidders[holder].item = 0;
             self.auction.bidders[holder].gain = 0;

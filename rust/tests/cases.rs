@@ -1,5 +1,5 @@
-//! The cases that document 01 prints, by calls and by texts, and the example of
-//! R-1 in document 02.
+//! The cases that document 01 prints, by calls and by texts, the example of R-1 in
+//! document 02, and cases of R-3.
 
 use noughtelm_tests::model::auction::*;
 use noughtelm_tests::model::check::{check, Claim, Totals};
@@ -47,7 +47,7 @@ fn case_1_by_text_and_by_call() {
 #[test]
 fn case_2_withdrawal() {
     let mut auction = case_1();
-    assert_eq!(auction.withdraw(1), Ok(0));
+    assert_eq!(auction.withdraw(&[1]), Ok(0));
     assert_state(&auction, &[2, 0], 60, 660, 60);
 }
 
@@ -121,9 +121,9 @@ fn case_13_full() {
 #[test]
 fn case_14_withdrawn_twice() {
     let mut auction = open(2, 1, 10).unwrap();
-    assert_eq!(auction.withdraw(1), Ok(0));
-    refused(auction.withdraw(1), 5, 0);
-    refused(auction.withdraw(3), 4, 0);
+    assert_eq!(auction.withdraw(&[1]), Ok(0));
+    refused(auction.withdraw(&[1]), 5, 1);
+    refused(auction.withdraw(&[3]), 4, 1);
     refused(arrive(&mut auction, &[(2, 5), (1, 5)]), 5, 2);
 }
 
@@ -174,7 +174,7 @@ fn larger_weight_must_be_open() {
 #[test]
 fn refusals_of_an_arrival_in_order() {
     let mut auction = open(3, 1, 10).unwrap();
-    auction.withdraw(2).unwrap();
+    auction.withdraw(&[2]).unwrap();
     let before = auction.clone();
     refused(arrive(&mut auction, &[(3, 5), (4, 0), (2, 0)]), 4, 2);
     refused(arrive(&mut auction, &[(2, 0)]), 5, 1);
@@ -182,4 +182,50 @@ fn refusals_of_an_arrival_in_order() {
     refused(arrive(&mut auction, &[(3, 5), (3, 5)]), 7, 2);
     refused(arrive(&mut auction, &[(0, 5)]), 4, 1);
     assert_eq!(auction, before);
+}
+
+/// Bidders 1 and 2 hold items 2 and 1, and want item 3.
+fn crossed() -> Auction {
+    let mut auction = open(3, 1, 2).unwrap();
+    assert_eq!(arrive(&mut auction, &[(2, 100), (3, 50)]), Ok(1));
+    assert_eq!(arrive(&mut auction, &[(1, 100), (3, 50)]), Ok(1));
+    auction
+}
+
+/// Document 02, R-3: "All go first; then the displaced batches bid in number order".
+#[test]
+fn a_list_of_items() {
+    let mut auction = crossed();
+    assert_eq!(auction.withdraw(&[1, 2]), Ok(1));
+    assert_state(&auction, &[3, 0], 50, 150, 50);
+    assert_eq!((auction.prices(), auction.gains()), (vec![0, 0, 50], vec![100, 0]));
+    let text = b"K\t3\t1\t2\nA\t2\t100\t3\t50\nA\t1\t100\t3\t50\nW\t1\t2\n";
+    assert_eq!(sheet(text), b"P\t1\t3\t100\nP\t2\t0\t0\nY\t3\t50\nT\t50\t150\t3\nE\t50\n");
+}
+
+/// "An empty list changes nothing in a call and is badly formed as a line".
+#[test]
+fn an_empty_list() {
+    let mut auction = crossed();
+    assert_eq!(auction.withdraw(&[]), Ok(0));
+    assert_eq!(auction, crossed());
+    assert_eq!(sheet(b"K\t3\t1\t2\nW\n"), b"R\t14\t2\n");
+}
+
+/// "Kettle by kettle 4, 5, 7, nothing withdrawn if any fails; 5 is read from the board
+/// handed in, so a live kettle named twice is 7".
+#[test]
+fn refusals_of_a_withdrawal_in_order() {
+    let mut auction = crossed();
+    auction.withdraw(&[2]).unwrap();
+    let before = auction.clone();
+    refused(auction.withdraw(&[1, 4]), 4, 2);
+    refused(auction.withdraw(&[1, 0]), 4, 2);
+    refused(auction.withdraw(&[3, 2]), 5, 2);
+    refused(auction.withdraw(&[2, 2]), 5, 1);
+    refused(auction.withdraw(&[1, 1]), 7, 2);
+    refused(auction.withdraw(&[3, 1, 4]), 7, 2);
+    assert_eq!(auction, before);
+    assert_eq!(auction.withdraw(&[1, 3]), Ok(0));
+    refused(auction.withdraw(&[1, 1]), 5, 1);
 }

@@ -12,7 +12,7 @@ use noughtelm_tests::ties::ties_of;
 use std::ops::Range;
 
 /// How many histories of each kind are tried.
-const HISTORIES: [(Kind, u64); 8] = [
+const HISTORIES: [(Kind, u64); 9] = [
     (Kind::Small, 9_000),
     (Kind::Sparse, 2_000),
     (Kind::Dense, 2_000),
@@ -21,6 +21,7 @@ const HISTORIES: [(Kind, u64); 8] = [
     (Kind::Withdrawals, 2_000),
     (Kind::Refused, 1_500),
     (Kind::EqualUtility, 4_000),
+    (Kind::Lists, 2_000),
 ];
 
 fn seeds(kind: Kind) -> Range<u64> {
@@ -51,7 +52,7 @@ fn look(both: &mut Both, rng: &mut Rng, last: bool) -> Same<()> {
 fn carry_out(both: &mut Both, call: &Call, rng: &mut Rng, last: bool) -> Same<()> {
     match call {
         Call::Arrive(edges) => both.arrive(edges)?.ok(),
-        Call::Withdraw(item) => both.withdraw(*item)?.ok(),
+        Call::Withdraw(items) => both.withdraw(items)?.ok(),
     };
     look(both, rng, last)
 }
@@ -138,7 +139,7 @@ fn histories_with_many_withdrawals() {
 fn histories_with_refused_calls() {
     let seen = run_kind(Kind::Refused);
     seen.assert_seen("arrive", &[0, FULL, UNKNOWN, GONE, WORTH, ORDER], 500);
-    seen.assert_seen("withdraw", &[0, UNKNOWN, GONE], 500);
+    seen.assert_seen("withdraw", &[0, UNKNOWN, GONE, ORDER], 500);
 }
 
 /// R-1 of document 02 decides many bids of these, and so does the lower number.
@@ -150,6 +151,11 @@ fn histories_of_equal_utility() {
     println!("{ties:?}");
     assert!(ties.weights >= 10_000 && ties.lower >= 4_000);
     assert!(ties.full >= 9_000 && ties.closed >= 3_000);
+}
+
+#[test]
+fn histories_of_lists() {
+    run_served(Kind::Lists);
 }
 
 #[test]
@@ -176,7 +182,7 @@ fn full_width<'a>(rng: &mut Rng, gone: bool, seen: &'a mut Tally) -> Same<Both<'
         both.arrive(&rising(rng, length))?.expect("a good list");
     }
     if gone {
-        both.withdraw(64)?.expect("item 64 is there");
+        both.withdraw(&[64])?.expect("item 64 is there");
     }
     Ok(both)
 }

@@ -161,7 +161,7 @@ fn case_board(seen: &mut Tally) -> Both<'_> {
     let list = [Edge { item: 1, weight: 100 }, Edge { item: 2, weight: 60 }];
     both.arrive(&list).unwrap().expect("a good list");
     both.arrive(&[Edge { item: 1, weight: 90 }]).unwrap().expect("a good list");
-    both.withdraw(3).unwrap().expect("item 3 is there");
+    both.withdraw(&[3]).unwrap().expect("item 3 is there");
     both
 }
 

@@ -1,5 +1,5 @@
 //! The proved calls, from the static library, on the first cases of document 01
-//! and on the example of R-1 in document 02.
+//! and on the example of R-1 in document 02, and cases of R-3.
 
 use noughtelm_tests::ffi::{
     self, Answer, Auction, Edge, EdgeBuffer, Scaled, Told, Totals, MAX_OUTPUT,
@@ -91,13 +91,38 @@ fn sheets_in_lists_of_any_length() {
 #[test]
 fn withdrawals() {
     let board = case_1().board;
-    let gone = ffi::withdraw(board, 1);
+    let gone = ffi::withdraw(board, &[1]);
     assert_eq!(gone.told(), served(0));
-    let again = ffi::withdraw(gone.board, 1);
-    assert_eq!((again.told(), again.board), (refused(5, 0), gone.board));
+    let again = ffi::withdraw(gone.board, &[1]);
+    assert_eq!((again.told(), again.board), (refused(5, 1), gone.board));
     let (mut plan, mut prices, mut gains) = ([0; 2], [0; 2], [0; 2]);
     ffi::read_out(gone.board, &mut plan, &mut prices, &mut gains);
     assert_eq!((plan, prices, gains), ([2, 0], [0, 60], [600, 0]));
+}
+
+/// Document 02, R-3: bidders 1 and 2 hold items 2 and 1, and want item 3.
+#[test]
+fn lists_of_items() {
+    let board = arrived(ffi::open(3, 1, 2).board, &[(2, 100), (3, 50)], 1);
+    let board = arrived(board, &[(1, 100), (3, 50)], 1);
+    for (items, number, place) in [
+        (vec![0], 4, 1),
+        (vec![1, 4], 4, 2),
+        (vec![1, 1], 7, 2),
+        (vec![1, 3, 2], 7, 3),
+        (vec![1, u64::MAX, 1], 4, 2),
+    ] {
+        let (lent, answer) = (items.clone(), ffi::withdraw(board, &items));
+        assert_eq!((answer.told(), answer.board), (refused(number, place), board), "{items:?}");
+        assert_eq!(items, lent);
+    }
+    let empty = ffi::withdraw(board, &[]);
+    assert_eq!((empty.told(), empty.board), (served(0), board));
+    let gone = ffi::withdraw(board, &[1, 2]);
+    assert_eq!((gone.told(), ffi::is_sound(gone.board)), (served(1), true));
+    assert_lists(gone.board, [3, 0], [0, 0, 50], [100, 0]);
+    assert_eq!(ffi::withdraw(gone.board, &[3, 1]).told(), refused(5, 2));
+    assert_eq!(ffi::withdraw(gone.board, &[3]).told(), served(0));
 }
 
 /// One more bidder, who makes so many bids.
@@ -192,7 +217,7 @@ fn refusals_keep_the_board() {
 /// last cell: every call that takes it answers 13 and keeps every byte.
 #[test]
 fn a_flag_is_0_or_1() {
-    let board = ffi::withdraw(case_1().board, 1).board;
+    let board = ffi::withdraw(case_1().board, &[1]).board;
     assert_eq!((ffi::is_sound(board), board.withdrawn[0], board.withdrawn[1]), (true, 1, 0));
     for (item, flag) in [(0, 2), (0, 255), (63, 1), (63, 2), (63, 255)] {
         let mut spoilt = board;
@@ -200,7 +225,7 @@ fn a_flag_is_0_or_1() {
         assert!(!ffi::is_sound(spoilt));
         let edges = [Edge { item: 2, weight: 90 }];
         let by_buffer = ffi::arrive_buffer(spoilt, EdgeBuffer::new(&edges));
-        for after in [ffi::arrive(spoilt, &edges), by_buffer, ffi::withdraw(spoilt, 2)] {
+        for after in [ffi::arrive(spoilt, &edges), by_buffer, ffi::withdraw(spoilt, &[2])] {
             assert_eq!((after.told(), after.board), (refused(13, 0), spoilt));
         }
         let (mut plan, mut prices, mut gains) = ([7; 2], [8; 2], [9; 2]);

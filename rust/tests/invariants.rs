@@ -6,18 +6,11 @@ use noughtelm_tests::both::Tally;
 use noughtelm_tests::ffi;
 use noughtelm_tests::gen::history::{history, Call, History, Kind};
 use noughtelm_tests::gen::sheet::{edges, sheet, Pattern};
-use noughtelm_tests::laws::{on_board, require, Law};
+use noughtelm_tests::laws::{bids_are_bounded, on_board, require, Law};
 use noughtelm_tests::model::auction::{Edge, Slack, MAX_ITEMS};
 use noughtelm_tests::rng::Rng;
 use noughtelm_tests::ties::ties_of;
 use std::ops::Range;
-
-/// "Over every history from opening, the bids number at most the entries ever
-/// accepted times the whole part of (q - 1)/p".
-fn bids_are_bounded(b: &ffi::Auction, accepted: u64, bids: u64) -> Law {
-    let most = accepted * ((b.slack.q - 1) / b.slack.p);
-    require(bids <= most, || format!("{bids} bids, at most {most} are allowed"))
-}
 
 fn laws(b: &ffi::Auction, accepted: u64, bids: u64) -> Law {
     require(ffi::is_sound(*b), || "not sound".into())?;
@@ -25,7 +18,7 @@ fn laws(b: &ffi::Auction, accepted: u64, bids: u64) -> Law {
     on_board(b)
 }
 
-/// The call has left its edges or its flag on the board, or nothing at all.
+/// The call has left its edges or its flags on the board, or nothing at all.
 fn is_entered(before: &ffi::Auction, after: &ffi::Answer, call: &Call) -> Law {
     let mut expected = ffi::Auction {
         price: after.board.price,
@@ -42,7 +35,9 @@ fn is_entered(before: &ffi::Auction, after: &ffi::Answer, call: &Call) -> Law {
             }
             expected.arrived += 1;
         }
-        Call::Withdraw(item) => expected.withdrawn[*item as usize - 1] = 1,
+        Call::Withdraw(items) => {
+            items.iter().for_each(|&item| expected.withdrawn[item as usize - 1] = 1)
+        }
     }
     require(expected == after.board, || "not the board that the call leaves".into())
 }
@@ -62,7 +57,7 @@ fn run(history: &History, seen: &mut Tally) -> Result<(u64, u64), String> {
                 let list: Vec<ffi::Edge> = edges.iter().map(lent).collect();
                 ("arrive", list.len() as u64, ffi::arrive(board, &list))
             }
-            Call::Withdraw(item) => ("withdraw", 0, ffi::withdraw(board, *item)),
+            Call::Withdraw(items) => ("withdraw", 0, ffi::withdraw(board, items)),
         };
         seen.count(name, after.number);
         if after.number == 0 {
@@ -130,7 +125,7 @@ fn histories_with_many_withdrawals() {
 fn histories_with_refused_calls() {
     let seen = run_all(Kind::Refused, 400);
     seen.assert_seen("arrive", &[0, 3, 4, 5, 6, 7], 50);
-    seen.assert_seen("withdraw", &[0, 4, 5], 50);
+    seen.assert_seen("withdraw", &[0, 4, 5, 7], 50);
 }
 
 /// "The share and the sum hold under the new choice" (document 02, R-1).
@@ -142,6 +137,12 @@ fn histories_of_equal_utility() {
     println!("{ties:?}");
     assert!(ties.weights >= 5_000 && ties.lower >= 2_000);
     assert!(ties.full >= 4_500 && ties.closed >= 1_500);
+}
+
+/// "The bid bound and share are wanted for any list" (document 02, R-3).
+#[test]
+fn histories_of_lists() {
+    run_all(Kind::Lists, 1_000);
 }
 
 /// Many bidders for few items at a small slack: the bids that the bound is for.

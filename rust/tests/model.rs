@@ -35,13 +35,6 @@ fn exact_of(auction: &Auction) -> Exact {
     solve(&auction.live_weights(), auction.items.len())
 }
 
-fn call(auction: &mut Auction, call: &Call) -> Result<u64, Refusal> {
-    match call {
-        Call::Arrive(edges) => auction.arrive(edges),
-        Call::Withdraw(item) => auction.withdraw(*item),
-    }
-}
-
 /// The laws that need no solver, on any board that a history reaches.
 fn assert_laws(auction: &Auction, edges: u64, bids: u64) {
     let Slack { p, q } = auction.slack;
@@ -74,7 +67,7 @@ fn run(history: &History, seen: &mut Seen) {
     let (mut edges, mut bids) = (0, 0);
     for (index, next) in history.calls.iter().enumerate() {
         let before = auction.clone();
-        match call(&mut auction, next) {
+        match next.carry_out(&mut auction) {
             Ok(made) => {
                 seen.served += 1;
                 bids += made;
@@ -154,6 +147,11 @@ fn histories_of_equal_utility() {
     run_served(Kind::EqualUtility);
 }
 
+#[test]
+fn histories_of_lists() {
+    run_served(Kind::Lists);
+}
+
 /// A bidder at the last item, with edges at others whose prices leave few utilities.
 fn choosing(rng: &mut Rng) -> Auction {
     let (p, q): (u64, u64) = rng.pick(&[(1, 2), (1, 3), (1, 10), (2, 5), (9, 10), (999, 1_000)]);
@@ -186,7 +184,7 @@ fn choice_by_pairs() {
         left.items[last - 1].withdrawn = true;
         let offers = offers(&left, 0);
         let expected = by_pairs(&offers);
-        assert_eq!(auction.withdraw(last as u64), Ok(expected.is_some() as u64));
+        assert_eq!(auction.withdraw(&[last as u64]), Ok(expected.is_some() as u64));
         let taken = (auction.bidders[0].item, auction.bidders[0].gain as i64);
         let told = format!("{:?}, {offers:?}", auction.slack);
         assert_eq!(taken, expected.map_or((0, 0), |o| (o.edge.item, o.utility)), "{told}");
@@ -203,7 +201,7 @@ fn bid_by_pairs(history: &History) -> Ties {
     let mut auction = Auction::open(history.items, history.slack).unwrap();
     let mut walk = Walk::open(history, by_pairs);
     for next in &history.calls {
-        assert_eq!(call(&mut auction, next), Ok(walk.call(next)), "{history:?}");
+        assert_eq!(next.carry_out(&mut auction), Ok(walk.call(next)), "{history:?}");
         assert_eq!(auction, walk.auction, "{history:?}");
     }
     walk.ties
@@ -213,7 +211,7 @@ fn bid_by_pairs(history: &History) -> Ties {
 fn bids_by_pairs() {
     let mut rng = Rng::new(10);
     let mut ties = Ties::default();
-    for kind in [Kind::Small, Kind::Ties, Kind::Withdrawals, Kind::EqualUtility] {
+    for kind in [Kind::Small, Kind::Ties, Kind::Withdrawals, Kind::EqualUtility, Kind::Lists] {
         (0..1_000).for_each(|_| ties += bid_by_pairs(&history(&mut rng, kind)));
         println!("up to {kind:?}: {ties:?}");
     }

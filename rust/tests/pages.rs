@@ -7,7 +7,6 @@ use noughtelm_tests::ffi::MAX_PAGE;
 use noughtelm_tests::gen::board;
 use noughtelm_tests::gen::history::{history, Call, History, Kind};
 use noughtelm_tests::gen::text::{dense, mutate, random, served_of_length, write};
-use noughtelm_tests::model::auction::Auction;
 use noughtelm_tests::model::refusal::*;
 use noughtelm_tests::model::sound::{to_record, Record};
 use noughtelm_tests::model::text::{page_of, replay, sheet};
@@ -116,18 +115,6 @@ fn up_to(mut history: History, bidders: usize) -> History {
     history
 }
 
-fn auction_of(history: &History) -> Auction {
-    let mut auction = Auction::open(history.items, history.slack).expect("it opens");
-    for call in &history.calls {
-        match call {
-            Call::Arrive(edges) => auction.arrive(edges),
-            Call::Withdraw(item) => auction.withdraw(*item),
-        }
-        .expect("a good call");
-    }
-    auction
-}
-
 /// Boards of so many bidders, by histories of all kinds that bring as many.
 fn boards(bidders: usize, from: u64) -> impl Iterator<Item = Record> {
     let served = Kind::ALL.into_iter().filter(|kind| *kind != Kind::Refused);
@@ -138,7 +125,7 @@ fn boards(bidders: usize, from: u64) -> impl Iterator<Item = Record> {
     });
     let arrivals = |h: &History| h.calls.iter().filter(|c| matches!(c, Call::Arrive(_))).count();
     let enough = histories.filter(move |history| arrivals(history) == bidders);
-    enough.map(|history| to_record(&auction_of(&history)))
+    enough.map(|history| to_record(&history.auction()))
 }
 
 #[test]

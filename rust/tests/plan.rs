@@ -50,7 +50,7 @@ fn after_2(text: &str) -> Vec<u8> {
 
 #[test]
 fn each_refusal_in_words() {
-    let cases: [(Vec<u8>, &str, &str); 11] = [
+    let cases: [(Vec<u8>, &str, &str); 15] = [
         (b"K\t65\t1\t10\n".into(), "R\t1\t1\n", "line 1: 1 count, kettles to open not 1 to 64\n  the K line has 65 kettles\n"),
         (b"K\t2\t10\t10\n".into(), "R\t2\t1\n", "line 1: 2 slack, p or q outside its range\n  the slack is 10/10: p is from 1 and below q, and q is at most 1,000\n"),
         (after_2(&"A\n".repeat(129)), "R\t3\t130\n", "line 130: 3 full, 128 batches have arrived\n"),
@@ -60,6 +60,10 @@ fn each_refusal_in_words() {
         (after_2("W\t2\nW\t2\n"), "R\t5\t3\n", "line 3: 5 gone, kettle withdrawn\n  the line names kettle 2, which line 2 withdraws\n"),
         (after_2("A\t1\t9\t2\t0\n"), "R\t6\t2\n", "line 2: 6 worth, not 1 to 1,000,000\n  entry 2 names kettle 2 with worth 0\n"),
         (after_2("A\t2\t5\t1\t5\n"), "R\t7\t2\n", "line 2: 7 order, kettle not above the entry before\n  entry 2 names kettle 1 after kettle 2\n"),
+        (after_2("W\t1\t3\n"), "R\t4\t2\n", "line 2: 4 unknown, kettle not 1 to k\n  number 2 of the line is kettle 3; there are kettles 1 to 2\n"),
+        (after_2("W\t1\t2\nA\t2\t5\n"), "R\t5\t3\n", "line 3: 5 gone, kettle withdrawn\n  entry 1 names kettle 2, which line 2 withdraws\n"),
+        (after_2("W\t1\nW\t2\t1\n"), "R\t5\t3\n", "line 3: 5 gone, kettle withdrawn\n  number 2 of the line is kettle 1, which line 2 withdraws\n"),
+        (after_2("W\t1\t1\n"), "R\t7\t2\n", "line 2: 7 order, kettle not above the entry before\n  number 2 of the line is kettle 1 after kettle 1\n"),
         (served_of_length(65_537), "R\t15\t0\n", "15 long, text above 65,536 bytes\n"),
         (vec![0; 300_000], "R\t15\t0\n", "15 long, text above 65,536 bytes\n"),
     ];
@@ -95,7 +99,7 @@ fn each_bad_line_in_words() {
         (b"A\t1\t5\n", 1, &["it begins with A: the first line begins with K"]),
         (b"K\t2\t1\n", 1, &["a K line has three numbers"]),
         (b"K\t2\t1\t10\nA\t1\n", 2, &["the last has no worth"]),
-        (b"K\t2\t1\t10\nW\t1\t2\n", 2, &["a W line has one number"]),
+        (b"K\t2\t1\t10\nW\n", 2, &["a W line has one number or more"]),
     ];
     for (text, line, reasons) in cases {
         let (status, page, words) = planned(text);

@@ -1,8 +1,8 @@
 //! The fixed-size record: sound ones that no history need reach, each clause
 //! of soundness broken, any numbers at all; and the check on all sorts of claims.
 
-use noughtelm_tests::gen::history::{Call, Kind};
-use noughtelm_tests::gen::{board, claim, history};
+use noughtelm_tests::gen::history::Kind;
+use noughtelm_tests::gen::{board, claim, history, items};
 use noughtelm_tests::model::auction::*;
 use noughtelm_tests::model::calls::*;
 use noughtelm_tests::model::check::{Claim, Totals, MAX_PRICE};
@@ -47,11 +47,11 @@ fn sound_records_are_served() {
             assert!(is_sound(&record));
             arrivals += 1;
         }
-        if let Some(item) = auction.items.iter().position(|i| !i.withdrawn) {
-            withdraw_record(&mut record, item as u64 + 1).unwrap();
-            assert!(is_sound(&record));
-            withdrawals += 1;
-        }
+        let count = rng.index(auction.items.len()) + 1;
+        let items = items::rising(&mut rng, &items::items_of(&record, false), count);
+        withdraw_record(&mut record, &items).unwrap();
+        assert!(is_sound(&record));
+        withdrawals += !items.is_empty() as u64;
         share_holds(&from_record(&record).unwrap());
     }
     println!("{high} records with a price above the check's limit");
@@ -66,7 +66,9 @@ fn assert_spoilt(record: &Record, what: &str) {
     let [m, y, g] = &mut lists;
     let claim = Claim { matching: vec![], price: vec![], gain: vec![], slack: record.slack };
     assert_eq!(arrive_record(&mut after, &[Edge { item: 0, weight: 0 }]), Err(spoilt), "{what}");
-    assert_eq!(withdraw_record(&mut after, 0), Err(spoilt), "{what}");
+    for items in [&[][..], &[1], &[0, 0]] {
+        assert_eq!(withdraw_record(&mut after, items), Err(spoilt), "{what}");
+    }
     assert_eq!(read_out_record(record, &mut m[..0], &mut y[..0], g), Err(spoilt), "{what}");
     assert_eq!(exact_record(record, m, y, g), Err(spoilt), "{what}");
     assert_eq!(check_record(record, &claim), Err(spoilt), "{what}");
@@ -211,15 +213,7 @@ fn try_claim(record: &Record, claim: &Claim, seen: &mut BTreeMap<u64, u64>) {
 
 fn reached(rng: &mut Rng) -> Record {
     let kind = rng.pick(&[Kind::Small, Kind::Ties, Kind::Withdrawals]);
-    let history = history::history(rng, kind);
-    let mut auction = Auction::open(history.items, history.slack).unwrap();
-    for call in &history.calls {
-        match call {
-            Call::Arrive(edges) => auction.arrive(edges).unwrap(),
-            Call::Withdraw(item) => auction.withdraw(*item).unwrap(),
-        };
-    }
-    to_record(&auction)
+    to_record(&history::history(rng, kind).auction())
 }
 
 #[test]

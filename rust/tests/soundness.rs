@@ -14,6 +14,10 @@ use noughtelm_tests::rng::Rng;
 
 const CALLS: [&str; 6] = ["arrive", "withdraw", "read out", "exact", "check", "write page"];
 
+/// Lists to withdraw: none, one, and several, served on some sound board or on none.
+const WITHDRAWN: [&[u64]; 10] =
+    [&[], &[0], &[1], &[2], &[64], &[u64::MAX], &[1, 2], &[2, 1], &[1, 1], &[1, 65]];
+
 fn empty_claim(slack: Slack) -> Claim {
     Claim { matching: vec![], price: vec![], gain: vec![], slack }
 }
@@ -27,8 +31,7 @@ fn ask(both: &mut Both, rng: &mut Rng) -> Same<u64> {
     };
     let length = rng.pick(&[0, 1, 5, 64, 65]);
     note(both.arrive(&rising(rng, length))?.err());
-    let item = rng.pick(&[0, 1, 2, 64, 65, u64::MAX]);
-    note(both.withdraw(item)?.err());
+    note(both.withdraw(rng.pick(&WITHDRAWN))?.err());
     let room = rooms(rng, &both.model);
     note(both.read_out(room)?.err());
     let room = if rng.chance(1, 2) { wide() } else { [0; 3] };
@@ -106,7 +109,7 @@ fn changed_numbers() {
     println!("{seen:?}");
     seen.assert_seen("sound", &[0, 1], 500);
     seen.assert_seen("arrive", &[0, SPOILT, FULL, UNKNOWN, GONE], 1);
-    seen.assert_seen("withdraw", &[0, SPOILT, UNKNOWN, GONE], 20);
+    seen.assert_seen("withdraw", &[0, SPOILT, UNKNOWN, GONE, ORDER], 20);
     seen.assert_seen("read out", &[0, SPOILT, SHORT], 100);
     seen.assert_seen("exact", &[0, SPOILT, SHORT], 100);
     seen.assert_seen("check", &[0, SPOILT, SLACK, UNEVEN], 2);

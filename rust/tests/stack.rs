@@ -1,14 +1,15 @@
-//! The deepest alternating paths of the exact level: in a thread with a stack of
-//! 2 MB by call, and in the program under a limit of 1 MB.
+//! The deepest alternating paths of the exact level, and many items withdrawn at once
+//! from a full board: in a thread with a stack of 2 MB by call, and in the program
+//! under a limit of 1 MB.
 
-use noughtelm_tests::both::{board, shown, wide, Both, Tally};
+use noughtelm_tests::both::{board, record, shown, wide, Both, Tally};
 use noughtelm_tests::ffi::{self, MAX_OUTPUT};
-use noughtelm_tests::gen::history::{level, slope, staircase, staircase_down, Call, History};
-use noughtelm_tests::gen::text::write;
-use noughtelm_tests::model::auction::Auction;
+use noughtelm_tests::gen::history::{level, slope, staircase, staircase_down, History};
+use noughtelm_tests::gen::text::{dense, write};
 use noughtelm_tests::model::sound::to_record;
 use noughtelm_tests::model::text::sheet;
 use noughtelm_tests::program;
+use std::ops::RangeInclusive;
 use std::thread;
 
 /// Paths over every item, for 2 to 64 items, and sheets on which every item is seen.
@@ -17,18 +18,6 @@ fn deep_histories() -> Vec<History> {
     let mut all: Vec<History> = makers.iter().flat_map(|make| (2..=64).map(make)).collect();
     all.extend([64, 65, 66, 128].map(|bidders| level(64, bidders)));
     all
-}
-
-fn auction_of(history: &History) -> Auction {
-    let mut auction = Auction::open(history.items, history.slack).expect("it opens");
-    for call in &history.calls {
-        match call {
-            Call::Arrive(edges) => auction.arrive(edges),
-            Call::Withdraw(item) => auction.withdraw(*item),
-        }
-        .expect("a good call");
-    }
-    auction
 }
 
 /// 64 bidders at 64 items in a row. Without the last, each may hold the lower of
@@ -41,7 +30,7 @@ fn every_bidder_moves_on() {
     ] {
         let mut lists = wide().map(|room| vec![0; room]);
         let [m, y, g] = &mut lists;
-        let told = ffi::exact(board(&to_record(&auction_of(&history))), m, y, g);
+        let told = ffi::exact(board(&to_record(&history.auction())), m, y, g);
         assert_eq!((told.number, told.value), (0, 6_400));
         assert_eq!(m[..64], moved);
     }
@@ -57,7 +46,7 @@ fn calls_in_a_thread_of_2_mb() {
     let tried = in_a_small_thread(|| {
         let mut seen = Tally::default();
         for history in deep_histories() {
-            let mut both = Both::on(to_record(&auction_of(&history)), &mut seen);
+            let mut both = Both::on(to_record(&history.auction()), &mut seen);
             let found = both.exact(wide());
             found.unwrap_or_else(|found| panic!("{found}\n{history:?}")).expect("room");
         }
@@ -91,4 +80,35 @@ fn program_under_a_limit_of_1_mb() {
         tried += 1;
     }
     assert_eq!(tried, 3 * 63 + 4);
+}
+
+/// Items that leave the board of the dense text at once; each has a holder.
+const LONG_LISTS: [RangeInclusive<u64>; 4] = [1..=32, 33..=64, 1..=63, 1..=64];
+
+#[test]
+fn long_lists_in_a_thread_of_2_mb() {
+    let displaced = in_a_small_thread(|| {
+        let mut seen = Tally::default();
+        let full = record(&ffi::replay(&dense()).board);
+        for items in LONG_LISTS {
+            let mut both = Both::on(full.clone(), &mut seen);
+            let answer = both.withdraw(&items.collect::<Vec<u64>>());
+            answer.unwrap_or_else(|found| panic!("{found}")).expect("live items");
+        }
+        full.holder.iter().filter(|&&holder| holder != 0).count()
+    });
+    assert_eq!(displaced, 64);
+}
+
+#[test]
+fn long_lists_under_a_limit_of_1_mb() {
+    for items in LONG_LISTS {
+        let mut text = dense();
+        let fields: String = items.map(|item| format!("\t{item}")).collect();
+        text.extend_from_slice(format!("W{fields}\n").as_bytes());
+        let output = program::run(program::command("ulimit -s 1024 &&", ""), &text);
+        let printed = program::printed(output);
+        assert!(printed.starts_with("P\t1\t"), "{printed}");
+        assert_eq!(printed, shown(&sheet(&text)));
+    }
 }

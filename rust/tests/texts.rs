@@ -98,22 +98,35 @@ fn dense_text_fits() {
     Seen::default().compare(&text);
 }
 
+/// The letter of a long text's second line, and with what the text is filled.
+const FILLERS: [(char, &str); 9] = [
+    ('A', "A\n"),
+    ('A', "\t1"),
+    ('A', "\t1\t1"),
+    ('A', "\t9999999"),
+    ('A', "\n"),
+    ('A', "\0"),
+    ('W', "\t1"),
+    ('W', "\t9999999"),
+    ('W', "\n"),
+];
+
 /// Texts of 65,535 to 65,537 bytes: empty arrivals are refused at the 129th,
-/// a long list at its 65th edge at the latest.
+/// a long list at its 65th edge or item at the latest.
 #[test]
 fn texts_at_the_limit() {
     let mut seen = Seen::default();
     for length in 65_535..=65_537 {
-        for filler in [&b"A\n"[..], b"\t1", b"\t1\t1", b"\t9999999", b"\n", b"\0"] {
-            let mut text = b"K\t64\t1\t10\nA".to_vec();
+        for (letter, filler) in FILLERS {
+            let mut text = format!("K\t64\t1\t10\n{letter}").into_bytes();
             while text.len() < length {
-                text.extend_from_slice(filler);
+                text.extend_from_slice(filler.as_bytes());
             }
             text.truncate(length - 1);
             text.push(b'\n');
             seen.compare(&text);
         }
     }
-    assert_eq!(seen.of(15), 6);
-    assert_eq!(seen.0.values().sum::<u64>(), 18);
+    assert_eq!(seen.of(15), 9);
+    assert_eq!(seen.0.values().sum::<u64>(), 27);
 }

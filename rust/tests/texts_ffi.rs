@@ -167,13 +167,17 @@ fn beginnings_of_texts() {
 }
 
 /// How a long text goes on after its first line, and with what it is filled.
-const FILLERS: [(&str, &str); 8] = [
+const FILLERS: [(&str, &str); 12] = [
     ("", "A\n"),
     ("A", "\t1"),
     ("A", "\t1\t1"),
     ("A", "\t0\t1"),
     ("A", "\t9999999"),
     ("A\t1\t1\n", "W\t1\n"),
+    ("W", "\t1"),
+    ("W\t1\t2", "\t65"),
+    ("W", "\t9999999"),
+    ("A\t1\t1\n", "W\t1\t2\n"),
     ("A", "\n"),
     ("A\n", "\0"),
 ];
@@ -196,7 +200,7 @@ fn texts_at_the_limit() {
         }
     }
     println!("{seen:?}");
-    assert_eq!((seen.of("replay", 0), seen.of("replay", 15)), (3, 9));
+    assert_eq!((seen.of("replay", 0), seen.of("replay", 15)), (3, 13));
     seen.assert_seen("replay", &[0, 3, 4, 5, 7, 14, 15], 1);
     seen.assert_seen("sheet", &[0, 8], 50);
 }

@@ -3,7 +3,7 @@
 
 use noughtelm_tests::both::{rooms, wide, Both, Same, Tally};
 use noughtelm_tests::ffi::MAX_PAGE;
-use noughtelm_tests::gen::{board, claim, list};
+use noughtelm_tests::gen::{board, claim, items, list};
 use noughtelm_tests::laws::on_board;
 use noughtelm_tests::model::auction::*;
 use noughtelm_tests::model::check::{Claim, MAX_PRICE};
@@ -63,8 +63,8 @@ fn change(both: &mut Both, rng: &mut Rng) -> Same<()> {
         both.arrive(&bad)?.ok();
         let good = live_arrival(rng, &both.model);
         both.arrive(&good)?.ok();
-        let any = rng.range(0, both.model.items + 1);
-        both.withdraw(any)?.ok();
+        let any = items::any(rng, &both.model, 4);
+        both.withdraw(&any)?.ok();
     }
     Ok(())
 }
@@ -91,7 +91,7 @@ fn assert_all_seen(boards: u64, (seen, unreached, high): (Tally, u64, u64)) {
     assert!(unreached * 2 > boards && high * 20 > boards);
     seen.assert_seen("sound", &[0], boards);
     seen.assert_seen("arrive", &[0, FULL, UNKNOWN, GONE, WORTH, ORDER], 20);
-    seen.assert_seen("withdraw", &[0, UNKNOWN, GONE], 100);
+    seen.assert_seen("withdraw", &[0, UNKNOWN, GONE, ORDER], 100);
     seen.assert_seen("read out", &[0, SHORT], 100);
     seen.assert_seen("exact", &[0], 100);
     seen.assert_seen("check", &[0, SLACK, UNEVEN, CLASH, PRICE, BARE], 50);

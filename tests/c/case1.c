@@ -100,7 +100,8 @@ static void withdraw(const noughtelm_auction *board)
 {
     uint64_t lists[] = {9, 9, 9, 9, 9, 9, 9, 9, 9};
     const uint64_t left[] = {2, 0, 9, 0, 60, 9, 600, 0, 9};
-    const noughtelm_answer gone = noughtelm_withdraw(*board, 1);
+    const uint64_t first[] = {1};
+    const noughtelm_answer gone = noughtelm_withdraw(*board, first, 1);
     told_is("case 2", told_of(&gone), 0, 0, 0);
     number_is("case 2, withdrawn 1", gone.board.market.withdrawn[0], 1);
     number_is("case 2, withdrawn 2", gone.board.market.withdrawn[1], 0);
@@ -108,8 +109,8 @@ static void withdraw(const noughtelm_auction *board)
     lists_are("case 2, read out", lists, left);
     totals_are("case 2, totals",
                noughtelm_check(gone.board, lists, 2, lists + 3, 2, lists + 6, 2, 1, 10), 0, 0, 60, 660);
-    const noughtelm_answer again = noughtelm_withdraw(gone.board, 1);
-    told_is("case 14", told_of(&again), 5, 0, 0);
+    const noughtelm_answer again = noughtelm_withdraw(gone.board, first, 1);
+    told_is("case 14", told_of(&again), 5, 1, 0);
     board_is("case 14, the board", &again.board, &gone.board);
 }
 
@@ -158,7 +159,7 @@ static void texts(const noughtelm_auction *board)
 static void refused_texts(const noughtelm_auction *board)
 {
     uint8_t out[200];
-    const noughtelm_auction gone = noughtelm_withdraw(*board, 1).board;
+    const noughtelm_auction gone = without(*board, 1);
     const noughtelm_answer replayed = noughtelm_replay(TEXT(REFUSED));
     told_is("refused replay", told_of(&replayed), 5, 5, 7);
     board_is("refused replay, the board", &replayed.board, &gone);

@@ -97,4 +97,10 @@ static inline noughtelm_auction case_1(void)
     return noughtelm_arrive(board, second, 1).board;
 }
 
+/* A board with one item less. */
+static inline noughtelm_auction without(noughtelm_auction board, uint64_t item)
+{
+    return noughtelm_withdraw(board, &item, 1).board;
+}
+
 #endif

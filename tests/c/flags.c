@@ -7,6 +7,7 @@ static void spoilt(const char *what, noughtelm_auction board)
     const noughtelm_auction before = board;
     const noughtelm_edge edges[] = {{1, 5}};
     const noughtelm_edge_buffer buffer = {{1}, {5}, 1};
+    const uint64_t items[] = {1, 2, 64};
     uint64_t lists[] = {2, 1, 40, 0, 60, 50};
     const uint64_t kept[] = {2, 1, 40, 0, 60, 50};
     holds(what, !noughtelm_is_sound(board));
@@ -14,9 +15,11 @@ static void spoilt(const char *what, noughtelm_auction board)
         noughtelm_arrive(board, edges, 1),
         noughtelm_arrive(board, NULL, 0),
         noughtelm_arrive_buffer(board, buffer),
-        noughtelm_withdraw(board, 1),
-        noughtelm_withdraw(board, 2),
-        noughtelm_withdraw(board, 64),
+        noughtelm_withdraw(board, NULL, 0),
+        noughtelm_withdraw(board, items, 1),
+        noughtelm_withdraw(board, items + 1, 1),
+        noughtelm_withdraw(board, items + 2, 1),
+        noughtelm_withdraw(board, items, 3),
     };
     for (size_t i = 0; i < sizeof answers / sizeof *answers; i++) {
         told_is(what, told_of(&answers[i]), 13, 0, 0);
@@ -35,7 +38,7 @@ int main(void)
 {
     const uint8_t bytes[] = {2, 3, 4, 127, 128, 254, 255};
     const noughtelm_auction board = case_1();
-    noughtelm_auction other = noughtelm_withdraw(board, 1).board;
+    noughtelm_auction other = without(board, 1);
     for (size_t i = 0; i < sizeof bytes; i++) {
         noughtelm_auction unused = board, used = board, gone = other;
         unused.market.withdrawn[63] = bytes[i];

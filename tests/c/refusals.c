@@ -26,7 +26,7 @@ static void opening(void)
 static void arrival(const char *what, const noughtelm_edge *edges, size_t count, uint64_t number,
                     uint64_t place)
 {
-    const noughtelm_auction board = noughtelm_withdraw(case_1(), 2).board;
+    const noughtelm_auction board = without(case_1(), 2);
     const noughtelm_answer answer = noughtelm_arrive(board, edges, count);
     told_is(what, told_of(&answer), number, place, 0);
     board_is(what, &answer.board, &board);
@@ -45,16 +45,35 @@ static void arrivals(void)
     arrival("7", order, 2, 7, 2);
 }
 
+/* A withdrawal of up to four items from a board of five, item 2 withdrawn. */
+static void withdrawal(const char *what, const uint64_t *items, size_t count, uint64_t number,
+                       uint64_t place)
+{
+    const noughtelm_auction board = without(noughtelm_open(5, 1, 10).board, 2);
+    uint64_t lent[4];
+    memcpy(lent, items, count * sizeof *items);
+    const noughtelm_answer answer = noughtelm_withdraw(board, lent, count);
+    told_is(what, told_of(&answer), number, place, 0);
+    board_is(what, &answer.board, &board);
+    cells_are(what, lent, items, count);
+}
+
 static void withdrawals(void)
 {
-    const noughtelm_auction board = noughtelm_withdraw(case_1(), 1).board;
-    const uint64_t items[] = {0, 3, UINT64_MAX, 1};
-    const uint64_t numbers[] = {4, 4, 4, 5};
-    for (int i = 0; i < 4; i++) {
-        const noughtelm_answer answer = noughtelm_withdraw(board, items[i]);
-        told_is("withdrawal", told_of(&answer), numbers[i], 0, 0);
-        board_is("withdrawal, the board", &answer.board, &board);
+    const uint64_t unknown[] = {0, 6, UINT64_MAX, 2}, late[] = {1, 3, 6, 2};
+    const uint64_t gone[] = {1, 3, 2, 0}, gone_twice[] = {2, 2};
+    const uint64_t twice[] = {1, 3, 3, 6}, falling[] = {4, 3}, low[] = {4, 0};
+    for (int i = 0; i < 3; i++) {
+        withdrawal("4 of one", unknown + i, 1, 4, 1);
     }
+    withdrawal("5 of one", unknown + 3, 1, 5, 1);
+    withdrawal("4", late, 4, 4, 3);
+    withdrawal("4 before 7", low, 2, 4, 2);
+    withdrawal("5 before 7", gone, 4, 5, 3);
+    withdrawal("5 before 7, twice", gone_twice, 2, 5, 1);
+    withdrawal("7, twice", twice, 4, 7, 3);
+    withdrawal("7, twice, at 2", twice + 1, 2, 7, 2);
+    withdrawal("7, falling", falling, 2, 7, 2);
 }
 
 /* 128 bidders arrive; the next is 3, whatever its edges. */
@@ -81,7 +100,7 @@ static void claim(const char *what, const uint64_t *lists, uint64_t number, uint
 static void checks(void)
 {
     const noughtelm_auction board = case_1();
-    const noughtelm_auction gone = noughtelm_withdraw(board, 1).board;
+    const noughtelm_auction gone = without(board, 1);
     const uint64_t right[] = {2, 1, 40, 0, 60, 50};
     const uint64_t unknown[] = {3, 1, 40, 0, 60, 50}, twice[] = {1, 1, 40, 0, 60, 50};
     const uint64_t edgeless[] = {0, 2, 40, 0, 60, 50};
@@ -124,11 +143,15 @@ static void texts(void)
     text("1", TEXT("K\t65\t1\t10\n"), 1, 1);
     text("2", TEXT("K\t2\t5\t5\n"), 2, 1);
     text("4", TEXT(CASE_1 "W\t3\n"), 4, 4);
+    text("4, a list", TEXT(CASE_1 "W\t1\t3\n"), 4, 4);
     text("5", TEXT(CASE_1 "W\t1\nA\t1\t5\n"), 5, 5);
+    text("5, a list", TEXT(CASE_1 "W\t1\nW\t2\t1\n"), 5, 5);
     text("6", TEXT("K\t2\t1\t10\nA\t1\t0\n"), 6, 2);
     text("7", TEXT("K\t2\t1\t10\nA\t2\t5\t1\t5\n"), 7, 2);
+    text("7, a list", TEXT(CASE_1 "W\t1\t1\n"), 7, 4);
     text("14", TEXT("K\t2\t1\t10\nA\t1\n"), 14, 2);
     text("14, no byte 10", TEXT("K\t2\t1\t10\nA"), 14, 2);
+    text("14, an empty list", TEXT(CASE_1 "W\n"), 14, 4);
     text("14, empty", NULL, 0, 14, 1);
     text("14, as long as can be", lines, NOUGHTELM_MAX_TEXT, 14, 1);
     text("15", lines, sizeof lines, 15, 0);

@@ -1,8 +1,8 @@
 -- A buffer's two lists and the edges that they mean are tested alike and make the same row.
-use mathlib.Core.Path.{_≡_, refl, sym, ap, ap₂, _∙_}
+use mathlib.Core.Path.{_≡_, refl, sym, ap, _∙_}
 use mathlib.Core.Bool.{true}
-use mathlib.Core.List.{List, [], _++_}
-use Prim.Native.Nat.{ℕ, zero, suc, _+_, _-_, _≤_, _<_, min}
+use mathlib.Core.List.{List, []}
+use Prim.Native.Nat.{ℕ, zero, suc, _<_, min}
 use native.Mathlib.Nat.{not-suc-le-zero}
 use native.Mathlib.Omega.{arith}
 use lib.ListN.{length, getD, length-append, List·getD-append}
@@ -24,7 +24,9 @@ use Rattle.bidding.specs.Moves.{arrivedOf}
 use Rattle.auction.specs.Arrive.{arriveOf}
 use Rattle.auction.proofs.CallVerdicts.{arrive-refused, arrive-served, arrival-done}
 use Rattle.refusals.specs.Demand1.{firstOf}
-use Rattle.auction.specs.Edges.{itemIn, weightIn, orderTest, edgeChecks, edgesChecks, rowTo, edgesFrom, bufferEdges}
+use Rattle.auction.specs.Edges.{itemIn, weightIn, edgeChecks, edgesChecks, rowTo, edgesFrom, bufferEdges}
+use Rattle.refusals.proofs.Each.{each-as}
+use Rattle.auction.proofs.EdgeTests.{order-as}
 
 pub from-length : (xs ys : List ℕ) (n : ℕ) → length (edgesFrom xs ys n) ≡ n
 unfolding edgesFrom
@@ -42,24 +44,11 @@ from-cell xs ys (suc n) i l =
     i l
 
 -- Tests and rows read only the cells below a number
-module _ (items : ℕ) (withdrawn : List ℕ) (f f′ g g′ : ℕ → ℕ) where
-  order-as : (i : ℕ) → ((j : ℕ) → j ≤ i → f j ≡ f′ j) → orderTest f i ≡ orderTest f′ i
-  unfolding orderTest
-  order-as zero e = refl
-  order-as (suc i) e = rw (e (suc i) (omega arith), e i (omega arith))
-
-  edge-as : (i : ℕ) → ((j : ℕ) → j ≤ i → f j ≡ f′ j) → ((j : ℕ) → j ≤ i → g j ≡ g′ j) →
-      edgeChecks items withdrawn f g i ≡ edgeChecks items withdrawn f′ g′ i
-  unfolding edgeChecks
-  edge-as i e h = rw (e i (omega arith), h i (omega arith), order-as i e)
-
-  pub edges-as : (i n : ℕ) → ((j : ℕ) → j < i + n → f j ≡ f′ j) → ((j : ℕ) → j < i + n → g j ≡ g′ j) →
-      edgesChecks items withdrawn f g i n ≡ edgesChecks items withdrawn f′ g′ i n
-  unfolding edgesChecks
-  edges-as i zero e h = refl
-  edges-as i (suc n) e h =
-      ap₂ _++_ (edge-as i (λ j l. e j (omega arith)) (λ j l. h j (omega arith)))
-      (edges-as (suc i) n (λ j l. e j (omega arith)) (λ j l. h j (omega arith)))
+pub edges-as : (items : ℕ) (withdrawn : List ℕ) (f f′ g g′ : ℕ → ℕ) (n : ℕ) → ((j : ℕ) → j < n → f j ≡ f′ j) → ((j : ℕ) → j < n → g j ≡ g′ j) →
+    edgesChecks items withdrawn f g 0 n ≡ edgesChecks items withdrawn f′ g′ 0 n
+unfolding edgeChecks
+edges-as items withdrawn f f′ g g′ n e h =
+    each-as _ _ 0 n (λ j l. rw (e j (omega arith), h j (omega arith), order-as f f′ j (λ k m. e k (omega arith))))
 
 pub row-as : (f f′ g g′ : ℕ → ℕ) (n : ℕ) → ((j : ℕ) → j < n → f j ≡ f′ j) → ((j : ℕ) → j < n → g j ≡ g′ j) → rowTo f g n ≡ rowTo f′ g′ n
 unfolding rowTo
@@ -77,7 +66,7 @@ module _ (xs ys : List ℕ) (n : ℕ) where
   pub buffer-checks : (items : ℕ) (withdrawn : List ℕ) → edgesChecks items withdrawn (cells xs) (cells ys) 0 n ≡
       edgesChecks items withdrawn (itemIn (edgesFrom xs ys n)) (weightIn (edgesFrom xs ys n)) 0 (length (edgesFrom xs ys n))
   buffer-checks items withdrawn =
-      rw (from-length xs ys n) (edges-as items withdrawn _ _ _ _ 0 n (λ j l. same-item j (omega arith)) (λ j l. same-weight j (omega arith)))
+      rw (from-length xs ys n) (edges-as items withdrawn _ _ _ _ n same-item same-weight)
 
   pub buffer-row : rowTo (cells xs) (cells ys) n ≡ rowTo (itemIn (edgesFrom xs ys n)) (weightIn (edgesFrom xs ys n)) (length (edgesFrom xs ys n))
   buffer-row = rw (from-length xs ys n) (row-as _ _ _ _ n same-item same-weight)

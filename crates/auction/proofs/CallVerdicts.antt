@@ -2,27 +2,29 @@
 use mathlib.Core.Path.{_≡_, _∙_}
 use mathlib.Core.Bool.{true, false}
 use mathlib.Core.List.{List}
-use Prim.Native.Nat.{ℕ, _-_, _≤_, _<_}
+use Prim.Native.Nat.{ℕ, _≤_, _<_}
 use lib.ListN.{length}
 use borrow.Author.Tests.{le-leb, lt-leb}
+use Rattle.duality.specs.Lists.{cells}
 use Rattle.board.specs.declared.record.Auction.{Auction}
 use Rattle.board.specs.declared.record.Edge.{Edge}
 use Rattle.refusals.specs.declared.Refusal.{Refusal}
-use Rattle.refusals.specs.declared.Refusal.the-variants.{Full, Unknown, Gone, Spoilt}
+use Rattle.refusals.specs.declared.Refusal.the-variants.{Full, Spoilt}
 use Rattle.refusals.specs.declared.Verdict.the-variants.{Served, Refused}
 use Rattle.bidding.specs.Rule.{AfterChain, Outcome, done}
 use Rattle.auction.specs.declared.arrive.Arrived.{Arrived}
 use Rattle.auction.specs.declared.withdraw.Withdrawn.{Withdrawn}
 use Rattle.auction.specs.declared.read_out.ReadOut.{ReadOut}
 use Rattle.board.specs.Limits.{maxBidders}
-use Rattle.board.specs.Cells.{priceAt, gainAt, withdrawnAt}
+use Rattle.board.specs.Cells.{priceAt, gainAt}
 use Rattle.board.specs.Live.{matchingOf}
 use Rattle.board.specs.SoundTest.{soundTest}
 use Rattle.refusals.specs.Demand1.{firstOf}
+use Rattle.auction.specs.Items.{itemsChecks}
 use Rattle.auction.specs.Edges.{itemIn, weightIn, edgesChecks, rowTo}
-use Rattle.board.specs.Ranges.{withinTest}
 use Rattle.auction.specs.Arrive.{arriveRest, arrivalOf, arriveBy, arriveOf}
-use Rattle.bidding.specs.Moves.{arrivedOf, withdrawnOf}
+use Rattle.bidding.specs.Moves.{arrivedOf}
+use Rattle.bidding.specs.Withdrawals.{withdrawnOf}
 use Rattle.auction.specs.Withdraw.{withdrawRest, withdrawalOf, withdrawBy, withdrawOf}
 use Rattle.board.specs.Lent.{readOutChecks, written, Lists, lists}
 use Rattle.auction.specs.ReadOut.{outcome, readOutBy, readOutOf}
@@ -57,23 +59,26 @@ pub arrival-done : (o : Outcome AfterChain) (s : AfterChain) → done s ≡ o �
 unfolding arrivalOf
 arrival-done o s e = rw (← e)
 
-module _ (b : Auction) (item : ℕ) where
-  pub withdraw-spoilt : soundTest b ≡ false → withdrawOf b item ≡ done (record { auction = b; answer = Withdrawn.Refused Spoilt })
+module _ (b : Auction) (items : List ℕ) where
+  pub withdraw-spoilt : soundTest b ≡ false → withdrawOf b items ≡ done (record { auction = b; answer = Withdrawn.Refused Spoilt })
   unfolding withdrawOf withdrawBy firstOf
   withdraw-spoilt e = rw e
 
   module _ (s : soundTest b ≡ true) where
-    pub withdraw-unknown : withinTest (b .market .items) item ≡ false → withdrawOf b item ≡ done (record { auction = b; answer = Withdrawn.Refused (Unknown 0) })
-    unfolding withdrawOf withdrawBy firstOf withdrawRest
-    withdraw-unknown e = rw (s, e)
+    -- What the items decide
+    by-items : withdrawOf b items ≡ withdrawBy b items (firstOf (itemsChecks (b .market .items) (b .market .withdrawn) (cells items) 0 (length items)))
+    unfolding withdrawOf firstOf withdrawRest
+    by-items = rw s
 
-    pub withdraw-gone : withinTest (b .market .items) item ≡ true → withdrawnAt b (item - 1) ≡ true → withdrawOf b item ≡ done (record { auction = b; answer = Withdrawn.Refused (Gone 0) })
-    unfolding withdrawOf withdrawBy firstOf withdrawRest
-    withdraw-gone e f = rw (s, e, f)
+    pub withdraw-refused : (r : Refusal) → firstOf (itemsChecks (b .market .items) (b .market .withdrawn) (cells items) 0 (length items)) ≡ Refused r →
+        withdrawOf b items ≡ done (record { auction = b; answer = Withdrawn.Refused r })
+    unfolding withdrawBy
+    withdraw-refused r e = by-items ∙ rw e
 
-    pub withdraw-served : withinTest (b .market .items) item ≡ true → withdrawnAt b (item - 1) ≡ false → withdrawOf b item ≡ withdrawalOf (withdrawnOf b (item - 1))
-    unfolding withdrawOf withdrawBy firstOf withdrawRest
-    withdraw-served e f = rw (s, e, f)
+    pub withdraw-served : firstOf (itemsChecks (b .market .items) (b .market .withdrawn) (cells items) 0 (length items)) ≡ Served →
+        withdrawOf b items ≡ withdrawalOf (withdrawnOf b (cells items) (length items))
+    unfolding withdrawBy
+    withdraw-served e = by-items ∙ rw e
 
 pub withdrawal-done : (o : Outcome AfterChain) (s : AfterChain) → done s ≡ o → withdrawalOf o ≡ done (record { auction = s .auction; answer = Withdrawn.Bids (s .bids) })
 unfolding withdrawalOf

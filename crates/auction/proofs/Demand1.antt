@@ -2,11 +2,12 @@
 use mathlib.Core.Path.{_≡_, refl, sym, ap, _∙_}
 use mathlib.Core.Bool.{true, false}
 use mathlib.Core.List.{List}
-use Prim.Native.Nat.{ℕ, zero, suc, _+_, _-_, _≤_, _<_}
+use Prim.Native.Nat.{ℕ, zero, suc, _-_, _≤_, _<_}
 use native.Mathlib.Omega.{arith}
 use lib.ListN.{length}
 use Rattle.duality.specs.Decide.{Decides}
 use Rattle.duality.proofs.Decide.{reword, true-decides, le-decides, clash}
+use Rattle.duality.specs.Lists.{cells}
 use Rattle.board.specs.declared.record.Auction.{Auction}
 use Rattle.board.specs.declared.record.Edge.{Edge}
 use Rattle.refusals.specs.declared.Refusal.{Refusal}
@@ -25,16 +26,19 @@ use Rattle.board.specs.Cells.{withdrawnAt}
 use Rattle.board.specs.Sound.{Sound}
 use Rattle.board.specs.Ranges.{SlackIn, Within}
 use Rattle.refusals.specs.Demand1.{firstOf, Check, codesOf, Demand1}
+use Rattle.refusals.specs.Each.{eachChecks}
 use Rattle.auction.specs.Edges.{itemIn, weightIn, orderTest, edgeChecks, edgesChecks}
+use Rattle.auction.specs.Items.{itemChecks, itemsChecks}
 use Rattle.board.specs.Opening.{OpenMet, openChecks, openBy, openOf}
 use Rattle.auction.specs.ReadOut.{readOutBy, readOutOf}
 use Rattle.board.specs.Lent.{readOutChecks}
 use Rattle.auction.specs.Arrive.{ArriveMet, arriveRest, arriveChecks, arrivalOf, arriveBy, arriveOf}
 use Rattle.auction.specs.Withdraw.{WithdrawMet, withdrawRest, withdrawChecks, withdrawalOf, withdrawBy, withdrawOf}
-use Rattle.auction.specs.Demand1.{OpenDemand1, ArriveDemand1, WithdrawDemand1, ReadOutDemand1, entryCodes, CallOrders}
+use Rattle.auction.specs.Demand1.{OpenDemand1, ArriveDemand1, WithdrawDemand1, ReadOutDemand1, entryCodes, itemCodes, CallOrders}
 use Rattle.board.proofs.Lending.{read-out-decided}
 use Rattle.board.proofs.Tests.{no-decides, within-decides, slack-decides}
-use Rattle.refusals.proofs.Verdicts.{Decided, ends, next, decided-append, demand-1, demand-1-as}
+use Rattle.refusals.proofs.Verdicts.{Decided, ends, next, demand-1, demand-1-as}
+use Rattle.refusals.proofs.Each.{cells-decided}
 use Rattle.board.proofs.SoundLaw.{sound-decides}
 use Rattle.auction.proofs.Demand2.{arrive-ends, withdraw-ends}
 use Rattle.auction.proofs.Told.{opened-refused, opened-ready, arrived-refused, arrived-bids, withdrawn-refused, withdrawn-bids, read-refused, read-written}
@@ -132,24 +136,20 @@ module _ (b : Auction) (edges : List Edge) where
       order-met : ArriveMet b edges (Order (suc (suc i))) → itemIn edges (suc i) ≤ itemIn edges i
       order-met (ArriveMet.order h l) = l
 
-  edges-decided : (i n : ℕ) → i + n ≡ length edges → Decided (ArriveMet b edges) (edgesChecks (b .market .items) (b .market .withdrawn) (itemIn edges) (weightIn edges) i n)
-  unfolding edgesChecks edgeChecks
-  edges-decided i zero h = ends
-  edges-decided i (suc n) h =
-      let l : i < length edges = omega (arith, h) in
-      decided-append
-      (next (reword (no-decides (within-decides (b .market .items) (itemIn edges i))) (λ f. ArriveMet.unknown l f) (unknown-met i))
+  edge-decided : (i : ℕ) → i < length edges → Decided (ArriveMet b edges) (edgeChecks (b .market .items) (b .market .withdrawn) (itemIn edges) (weightIn edges) i)
+  unfolding edgeChecks
+  edge-decided i l =
+      next (reword (no-decides (within-decides (b .market .items) (itemIn edges i))) (λ f. ArriveMet.unknown l f) (unknown-met i))
       (next (reword (true-decides (withdrawnAt b (itemIn edges i - 1))) (λ e. ArriveMet.gone l e) (gone-met i))
       (next (reword (no-decides (within-decides maxWeight (weightIn edges i))) (λ f. ArriveMet.worth l f) (worth-met i))
-      (next (order-decided i l) ends))))
-      (edges-decided (suc i) n (omega (arith, h)))
+      (next (order-decided i l) ends)))
 
   arrive-decided : Decided (ArriveMet b edges) (arriveChecks b edges)
   unfolding arriveRest
   arrive-decided =
       next (reword (no-decides (sound-decides b)) (λ f. ArriveMet.spoilt f) arrive-unsound)
       (next (reword (le-decides maxBidders (b .market .arrived)) (λ l. ArriveMet.full l) full-met)
-      (edges-decided 0 (length edges) (omega arith)))
+      (cells-decided _ (length edges) edge-decided))
 
 abbrev arrival : Auction → Arrived → Arrival
 arrival c a = record { auction = c; answer = a }
@@ -179,22 +179,37 @@ arrive-demand-1 b edges =
 
 -- ---- Withdraw
 
-module _ (b : Auction) (item : ℕ) where
-  withdraw-unsound : WithdrawMet b item Spoilt → Sound b → ⊥
+module _ (b : Auction) (items : List ℕ) where
+  withdraw-unsound : WithdrawMet b items Spoilt → Sound b → ⊥
   withdraw-unsound (WithdrawMet.spoilt f) = f
 
-  unknown-item-met : WithdrawMet b item (Unknown 0) → Within 1 (b .market .items) item → ⊥
-  unknown-item-met (WithdrawMet.unknown f) = f
+  unknown-item-met : (i : ℕ) → WithdrawMet b items (Unknown (suc i)) → Within 1 (b .market .items) (cells items i) → ⊥
+  unknown-item-met i (WithdrawMet.unknown l f) = f
 
-  gone-item-met : WithdrawMet b item (Gone 0) → withdrawnAt b (item - 1) ≡ true
-  gone-item-met (WithdrawMet.gone e) = e
+  gone-item-met : (i : ℕ) → WithdrawMet b items (Gone (suc i)) → withdrawnAt b (cells items i - 1) ≡ true
+  gone-item-met i (WithdrawMet.gone l e) = e
 
-  withdraw-decided : Decided (WithdrawMet b item) (withdrawChecks b item)
+  rise-decided : (i : ℕ) → i < length items → Decides (orderTest (cells items) i) (WithdrawMet b items (Order (suc i)))
+  unfolding orderTest
+  rise-decided zero h = record { sound = λ e. absurd (clash false e refl); complete = λ m. absurd (never m) }
+    where
+      never : WithdrawMet b items (Order 1) → ⊥
+      never = elim [ ]
+  rise-decided (suc i) h = reword (le-decides (cells items (suc i)) (cells items i)) (λ l. WithdrawMet.order h l) rise-met
+    where
+      rise-met : WithdrawMet b items (Order (suc (suc i))) → cells items (suc i) ≤ cells items i
+      rise-met (WithdrawMet.order h l) = l
+
+  item-decided : (i : ℕ) → i < length items → Decided (WithdrawMet b items) (itemChecks (b .market .items) (b .market .withdrawn) (cells items) i)
+  unfolding itemChecks
+  item-decided i l =
+      next (reword (no-decides (within-decides (b .market .items) (cells items i))) (λ f. WithdrawMet.unknown l f) (unknown-item-met i))
+      (next (reword (true-decides (withdrawnAt b (cells items i - 1))) (λ e. WithdrawMet.gone l e) (gone-item-met i)) (next (rise-decided i l) ends))
+
+  withdraw-decided : Decided (WithdrawMet b items) (withdrawChecks b items)
   unfolding withdrawRest
   withdraw-decided =
-      next (reword (no-decides (sound-decides b)) (λ f. WithdrawMet.spoilt f) withdraw-unsound)
-      (next (reword (no-decides (within-decides (b .market .items) item)) (λ f. WithdrawMet.unknown f) unknown-item-met)
-      (next (reword (true-decides (withdrawnAt b (item - 1))) (λ e. WithdrawMet.gone e) gone-item-met) ends))
+      next (reword (no-decides (sound-decides b)) (λ f. WithdrawMet.spoilt f) withdraw-unsound) (cells-decided _ (length items) item-decided)
 
 abbrev withdrawal : Auction → Withdrawn → Withdrawal
 withdrawal c a = record { auction = c; answer = a }
@@ -207,19 +222,19 @@ withdrawal-bids (done s) a e = (s .bids, let h : withdrawal (s .auction) (Withdr
 
 pub withdraw-demand-1 : WithdrawDemand1
 unfolding withdrawOf withdrawBy
-withdraw-demand-1 b item =
+withdraw-demand-1 b items =
     demand-1-as
-    (chain-demand-1 (withdrawBy b item) (λ c n. withdrawal c (Withdrawn.Bids n)) (λ r. withdrawal b (Withdrawn.Refused r)) (withdraw-decided b item)
+    (chain-demand-1 (withdrawBy b items) (λ c n. withdrawal c (Withdrawn.Bids n)) (λ r. withdrawal b (Withdrawn.Refused r)) (withdraw-decided b items)
     (λ r. refl) bids
     (λ r s e. let f : Withdrawn.Refused r ≡ Withdrawn.Refused s = ap (λ x. x .answer) e in cc)
     (λ r c n e. let f : Withdrawn.Refused r ≡ Withdrawn.Bids n = ap (λ x. x .answer) e in let z : _≡_ {A = ℕ} 0 1 = cc in omega arith)
-    (withdraw-ends b item))
+    (withdraw-ends b items))
     (λ r. (λ e. record { answer = Withdrawn.Refused r; outcome = e; tells = refl }, λ a. a .outcome ∙ ap (λ x. done (withdrawal b x)) (withdrawn-refused (a .answer) r (a .tells)))) (
       λ s. (s .0, s .1, record { answer = Withdrawn.Bids (s .1); outcome = s .2; tells = refl }),
       λ s. (s .0, s .1, s .2 .outcome ∙ ap (λ x. done (withdrawal (s .0) x)) (withdrawn-bids (s .2 .answer) (s .1) (s .2 .tells))),
     )
   where
-    bids : (a : Withdrawal) → withdrawBy b item Served ≡ done a → (c : Auction) × (n : ℕ) × (a ≡ withdrawal c (Withdrawn.Bids n))
+    bids : (a : Withdrawal) → withdrawBy b items Served ≡ done a → (c : Auction) × (n : ℕ) × (a ≡ withdrawal c (Withdrawn.Bids n))
     bids a e = let (n, h) = withdrawal-bids _ a e in (a .auction, n, rw (← h) refl)
 
 -- ---- Read out
@@ -241,18 +256,23 @@ read-out-demand-1 b l =
 
 -- ---- The order of the checks
 
-module _ (b : Auction) (edges : List Edge) where
-  entries-order : (i n : ℕ) → codesOf (edgesChecks (b .market .items) (b .market .withdrawn) (itemIn edges) (weightIn edges) i n) ≡ entryCodes (suc i) n
-  unfolding edgesChecks edgeChecks
-  entries-order i zero = refl
-  entries-order i (suc n) = rw (entries-order (suc i) n)
+module _ (items : ℕ) (withdrawn : List ℕ) (item : ℕ → ℕ) where
+  entries-order : (weight : ℕ → ℕ) (i n : ℕ) → codesOf (edgesChecks items withdrawn item weight i n) ≡ entryCodes (suc i) n
+  unfolding eachChecks edgeChecks
+  entries-order weight i zero = refl
+  entries-order weight i (suc n) = rw (entries-order weight (suc i) n)
+
+  items-order : (i n : ℕ) → codesOf (itemsChecks items withdrawn item i n) ≡ itemCodes (suc i) n
+  unfolding eachChecks itemChecks
+  items-order i zero = refl
+  items-order i (suc n) = rw (items-order (suc i) n)
 
 pub call-orders : CallOrders
 unfolding arriveRest withdrawRest
 call-orders =
     record {
       opens = λ items p q. refl;
-      arrives = λ b edges. rw (entries-order b edges 0 (length edges));
-      withdraws = λ b item. refl;
+      arrives = λ b edges. rw (entries-order (b .market .items) (b .market .withdrawn) (itemIn edges) (weightIn edges) 0 (length edges));
+      withdraws = λ b items. rw (items-order (b .market .items) (b .market .withdrawn) (cells items) 0 (length items));
       reads = λ b l. refl;
     }

@@ -2,17 +2,16 @@
 use mathlib.Core.Path.{_≡_, refl, sym, subst, subst₂, _∙_}
 use mathlib.Core.List.{List}
 use mathlib.Core.Logic.{_⊎_, inl, inr}
-use Prim.Native.Nat.{ℕ, _+_, _-_, _≤_, _<_}
+use Prim.Native.Nat.{ℕ, _-_, _<_}
 use native.Mathlib.Nat.{mul-pos}
 use native.Mathlib.Omega.{arith}
 use lib.ListN.{length}
 use borrow.Author.Tests.{not-false}
+use Rattle.duality.specs.Lists.{cells}
 use Rattle.duality.proofs.Tightness.{tightness}
 use Rattle.duality.proofs.Share.{share}
 use Rattle.board.specs.declared.record.Auction.{Auction}
 use Rattle.board.specs.declared.record.Edge.{Edge}
-use Rattle.board.specs.declared.record.Holder.{Holder}
-use Rattle.board.specs.declared.record.Holder.the-variants.{Held, Free}
 use Rattle.refusals.specs.declared.Refusal.{Refusal}
 use Rattle.refusals.specs.declared.Verdict.{Verdict}
 use Rattle.refusals.specs.declared.Verdict.the-variants.{Served, Refused}
@@ -21,30 +20,32 @@ use Rattle.auction.specs.declared.arrive.Arrival.{Arrival}
 use Rattle.auction.specs.declared.withdraw.Withdrawn.{Withdrawn}
 use Rattle.auction.specs.declared.withdraw.Withdrawal.{Withdrawal}
 use Rattle.board.specs.Limits.{maxBidders}
-use Rattle.board.specs.Cells.{holderAt, holderOf}
+use Rattle.board.specs.Cells.{holderAt}
 use Rattle.board.specs.Live.{live, matchingOf}
 use Rattle.board.specs.Sound.{Sound}
-use Rattle.bidding.specs.Potential.{edgeCount, potential}
-use Rattle.bidding.specs.Rule.{displaced, done, handOver}
+use Rattle.bidding.specs.Rule.{done}
 use Rattle.refusals.specs.Told.{served, refused}
 use Rattle.refusals.specs.Demand1.{firstOf}
 use Rattle.auction.specs.Edges.{itemIn, weightIn, rowTo}
 use Rattle.auction.specs.Arrive.{arriveChecks, arrivalOf, arriveBy, arriveOf, ArriveAnswers}
-use Rattle.bidding.specs.Moves.{arrivedOf, entered, withdrawnOf, released}
+use Rattle.bidding.specs.Moves.{arrivedOf, entered}
+use Rattle.bidding.specs.WithdrawalLaws.{Listed, WithdrawalEnds}
 use Rattle.auction.specs.Withdraw.{withdrawChecks, withdrawalOf, withdrawBy, withdrawOf, WithdrawAnswers}
-use Rattle.bidding.specs.Waiting.{Nobody, Ready}
+use Rattle.bidding.specs.Waiting.{SoundBut, Nobody}
 use Rattle.bidding.specs.RuleLaws.{Settles, Ends}
-use Rattle.auction.specs.Demand2.{ArriveEnds, WithdrawEnds, Arrives, ArriveDemand2, Leaves, free, held, Withdraws, WithdrawDemand2, SoundDemand2}
+use Rattle.auction.specs.Demand2.{ArriveEnds, WithdrawEnds, Arrives, ArriveDemand2, Withdraws, WithdrawDemand2, SoundDemand2}
 use Rattle.board.proofs.SoundLaw.{sound-decides}
 use Rattle.bidding.proofs.Waiting.{sound-is-settled}
 use Rattle.bidding.proofs.Frame.{framed}
 use Rattle.bidding.proofs.Bids.{cell-free}
-use Rattle.bidding.proofs.Potentials.{potential-displaced, potential-released}
+use Rattle.bidding.proofs.Rolls.{displaced-in-order}
+use Rattle.bidding.proofs.Vacating.{all-go}
+use Rattle.bidding.proofs.Withdrawing.{withdrawn-is-chains}
 use Rattle.bidding.proofs.Chains.{chain-ends, settle-is-chain}
-use Rattle.bidding.proofs.Starts.{arrival-ready, withdrawal-ready, withdrawal-free}
+use Rattle.bidding.proofs.Starts.{arrival-sound, arrival-ready}
 use Rattle.refusals.proofs.Verdicts.{served-next}
 use Rattle.auction.proofs.EdgesLaw.{EdgesAccepted, served-arrival, served-withdrawal, row-fits, row-length}
-use Rattle.auction.proofs.Entries.{accepted-edges, entered-edges, entered-others, chain-edges, leaves-edges}
+use Rattle.auction.proofs.Entries.{accepted-edges, entered-edges, entered-others, chain-edges, chains-edges, gone-edges}
 use Rattle.auction.proofs.Told.{arrived-bids, withdrawn-bids}
 
 -- An answer is one
@@ -57,10 +58,10 @@ pub record Settlement (b : Auction) (i : ℕ) : Type 0 where
   pub sound : Sound (settles .board)
   pub ends : Ends Nobody b (settles .board) (settles .bids)
 
-pub settlement : {b : Auction} {i : ℕ} → Ready b i → Settlement b i
-settlement {b} {i} r =
-    let s = settle-is-chain Nobody b i (r .sound) (r .bidder) (λ z. z) in
-    let e = chain-ends Nobody b _ i _ (r .sound) (r .bidder) (λ z. z) (s .chain) in
+pub settlement : {b : Auction} {i : ℕ} → SoundBut (λ h. Nobody h ⊎ (h ≡ i)) b → i < b .market .arrived → Settlement b i
+settlement {b} {i} sound bidder =
+    let s = settle-is-chain Nobody b i sound bidder (λ z. z) in
+    let e = chain-ends Nobody b _ i _ sound bidder (λ z. z) (s .chain) in
     record { settles = s; sound = sound-is-settled _ .1 (e .sound); ends = e }
 
 -- ---- Arrive
@@ -86,7 +87,7 @@ joins b edges e =
     let u = served-next _ _ e in
     let s = sound-decides b .sound (not-false _ (u .0)) in
     let a = served-arrival b edges (u .1) in
-    let t = settlement (arrival-ready s (a .0) (row-fits (a .1))) in
+    let t = settlement (arrival-sound (sound-is-settled b .0 s) (a .0) (row-fits (a .1))) (arrival-ready s (a .0) (row-fits (a .1)) .bidder) in
     record { before = s; room = a .0; accepted = a .1; after = t; answers = rw (e, t .settles .computed) }
 
 -- The two kinds of answer
@@ -141,82 +142,67 @@ arrive-demand-2 b c edges n a =
 -- ---- Withdraw
 
 -- What a served withdrawal is
-pub record Quits (b : Auction) (item : ℕ) : Type 0 where
+pub record Quits (b : Auction) (items : List ℕ) : Type 0 where
   pub before : Sound b
-  pub board : Auction
-  pub bids : ℕ
-  pub leaves : Leaves b (item - 1) board bids
-  pub after : Sound board
-  pub counted : bids + potential b ≤ potential board
-  pub answers : withdrawOf b item ≡ done (record { auction = board; answer = Withdrawn.Bids bids })
+  pub listed : Listed b (cells items) (length items)
+  pub ends : WithdrawalEnds b (cells items) (length items)
+  pub answers : withdrawOf b items ≡ done (record { auction = ends .board; answer = Withdrawn.Bids (ends .bids) })
 
-module _ (b : Auction) (item : ℕ) (e : firstOf (withdrawChecks b item) ≡ Served) where
-  by-holder : (s : Sound b) (lk : item - 1 < b .market .items) (h : Holder) → holderOf (holderAt b (item - 1)) ≡ h → Quits b item
-  unfolding withdrawOf withdrawBy withdrawnOf withdrawalOf handOver edgeCount displaced
-  by-holder s lk Free f =
-      record {
-        before = s;
-        board = released b (item - 1);
-        bids = 0;
-        leaves = free f;
-        after = withdrawal-free s lk f;
-        counted = omega (arith, potential-released (framed (sound-is-settled b .0 s)) lk);
-        answers = rw (e, f);
-      }
-  by-holder s lk (Held x) f =
-      let t = settlement (withdrawal-ready s lk f) in
-      record {
-        before = s;
-        board = t .settles .board;
-        bids = t .settles .bids;
-        leaves = held f (t .settles .chain);
-        after = t .sound;
-        counted = omega (arith, t .ends .counted, potential-displaced (released b (item - 1)) x, potential-released (framed (sound-is-settled b .0 s)) lk);
-        answers = rw (e, f, t .settles .computed);
-      }
+pub quits : (b : Auction) (items : List ℕ) → firstOf (withdrawChecks b items) ≡ Served → Quits b items
+unfolding withdrawOf withdrawBy withdrawalOf
+quits b items e =
+    let u = served-next _ _ e in
+    let s = sound-decides b .sound (not-false _ (u .0)) in
+    let k = served-withdrawal b items (u .1) .known in
+    let w = withdrawn-is-chains b (cells items) (length items) s k in
+    record { before = s; listed = k; ends = w; answers = rw (e, w .computed) }
 
-  pub quits : Quits b item
-  quits =
-      let u = served-next _ _ e in
-      let s = sound-decides b .sound (not-false _ (u .0)) in
-      let k = served-withdrawal b item (u .1) .0 in
-      by-holder s (omega arith) _ refl
-
-module _ (b : Auction) (item : ℕ) where
-  refused-withdrawal : (q : Refusal) → firstOf (withdrawChecks b item) ≡ Refused q → withdrawOf b item ≡ done (record { auction = b; answer = Withdrawn.Refused q })
+module _ (b : Auction) (items : List ℕ) where
+  refused-withdrawal : (q : Refusal) → firstOf (withdrawChecks b items) ≡ Refused q → withdrawOf b items ≡ done (record { auction = b; answer = Withdrawn.Refused q })
   unfolding withdrawOf withdrawBy
   refused-withdrawal q e = rw e
 
-  pub withdraw-all : (P : Withdrawal → Type 0) → ((j : Quits b item) → P (record { auction = j .board; answer = Withdrawn.Bids (j .bids) })) →
-      ((q : Refusal) → P (record { auction = b; answer = Withdrawn.Refused q })) → (r : Withdrawal) → withdrawOf b item ≡ done r → P r
-  withdraw-all P f g r h = go (firstOf (withdrawChecks b item)) refl
+  pub withdraw-all : (P : Withdrawal → Type 0) → ((j : Quits b items) → P (record { auction = j .ends .board; answer = Withdrawn.Bids (j .ends .bids) })) →
+      ((q : Refusal) → P (record { auction = b; answer = Withdrawn.Refused q })) → (r : Withdrawal) → withdrawOf b items ≡ done r → P r
+  withdraw-all P f g r h = go (firstOf (withdrawChecks b items)) refl
     where
-      go : (v : Verdict) → firstOf (withdrawChecks b item) ≡ v → P r
-      go Served e = let j = quits b item e in same-done P (sym (j .answers) ∙ h) (f j)
+      go : (v : Verdict) → firstOf (withdrawChecks b items) ≡ v → P r
+      go Served e = let j = quits b items e in same-done P (sym (j .answers) ∙ h) (f j)
       go (Refused q) e = same-done P (sym (refused-withdrawal q e) ∙ h) (g q)
 
 pub withdraw-ends : WithdrawEnds
-withdraw-ends b item = go (firstOf (withdrawChecks b item)) refl
+withdraw-ends b items = go (firstOf (withdrawChecks b items)) refl
   where
-    go : (v : Verdict) → firstOf (withdrawChecks b item) ≡ v → (r : Withdrawal) × (withdrawOf b item ≡ done r)
-    go Served e = (_, quits b item e .answers)
-    go (Refused q) e = (_, refused-withdrawal b item q e)
+    go : (v : Verdict) → firstOf (withdrawChecks b items) ≡ v → (r : Withdrawal) × (withdrawOf b items ≡ done r)
+    go Served e = (_, quits b items e .answers)
+    go (Refused q) e = (_, refused-withdrawal b items q e)
 
 -- A withdrawal serves, or refuses and leaves the board
-pub withdraw-either : (b : Auction) (item : ℕ) → ((c : Auction) × (n : ℕ) × WithdrawAnswers b item c (served n)) ⊎ ((r : Refusal) × WithdrawAnswers b item b (refused r))
-withdraw-either b item = go (firstOf (withdrawChecks b item)) refl
+pub withdraw-either : (b : Auction) (items : List ℕ) → ((c : Auction) × (n : ℕ) × WithdrawAnswers b items c (served n)) ⊎ ((r : Refusal) × WithdrawAnswers b items b (refused r))
+withdraw-either b items = go (firstOf (withdrawChecks b items)) refl
   where
-    go : (v : Verdict) → firstOf (withdrawChecks b item) ≡ v → ((c : Auction) × (n : ℕ) × WithdrawAnswers b item c (served n)) ⊎ ((r : Refusal) × WithdrawAnswers b item b (refused r))
-    go Served e = inl (_, _, record { answer = Withdrawn.Bids _; outcome = quits b item e .answers; tells = refl })
-    go (Refused q) e = inr (q, record { answer = Withdrawn.Refused q; outcome = refused-withdrawal b item q e; tells = refl })
+    go : (v : Verdict) → firstOf (withdrawChecks b items) ≡ v → ((c : Auction) × (n : ℕ) × WithdrawAnswers b items c (served n)) ⊎ ((r : Refusal) × WithdrawAnswers b items b (refused r))
+    go Served e = inl (_, _, record { answer = Withdrawn.Bids _; outcome = quits b items e .answers; tells = refl })
+    go (Refused q) e = inr (q, record { answer = Withdrawn.Refused q; outcome = refused-withdrawal b items q e; tells = refl })
 
 pub withdraw-demand-2 : WithdrawDemand2
-withdraw-demand-2 b c item n a =
-    withdraw-all b item (λ r. r .auction ≡ c → r .answer ≡ Withdrawn.Bids n → Withdraws b item c n)
-    (λ j e f. let k : j .bids ≡ n = cc in
-    subst₂ (λ c n. Withdraws b item c n) e k (record { before = j .before; leaves = j .leaves; others = leaves-edges (j .leaves); after = j .after }))
+withdraw-demand-2 b c items n a =
+    withdraw-all b items (λ r. r .auction ≡ c → r .answer ≡ Withdrawn.Bids n → Withdraws b items c n)
+    (λ j e f. let k : j .ends .bids ≡ n = cc in subst₂ (λ c n. Withdraws b items c n) e k (withdraws j))
     (λ q e f. let z : _≡_ {A = ℕ} 0 1 = cc in absurd (omega arith))
     _ (a .outcome) refl (withdrawn-bids (a .answer) n (a .tells))
+  where
+    withdraws : (j : Quits b items) → Withdraws b items (j .ends .board) (j .ends .bids)
+    withdraws j =
+        let gone = all-go b (cells items) (length items) (j .before) (j .listed) in
+        record {
+          before = j .before;
+          gone = gone;
+          order = displaced-in-order b (cells items) (length items);
+          chains = j .ends .chains;
+          others = λ i. chains-edges (j .ends .chains) i ∙ gone-edges gone i;
+          after = j .ends .sound;
+        }
 
 -- ---- A sound board
 pub sound-demand-2 : SoundDemand2

@@ -1,32 +1,33 @@
--- What it says that an arrival's edges, or a withdrawal's item, are served; and the row that the edges make.
+-- What it says that an arrival's edges, or a withdrawal's items, are served; and the row that the edges make.
 use mathlib.Core.Path.{_≡_, refl, ap}
-use mathlib.Core.Logic.{⊎-elim}
 use mathlib.Core.Bool.{false}
-use mathlib.Core.List.{List, [], _∷_, _++_}
-use Prim.Native.Nat.{ℕ, zero, suc, _+_, _-_, _≤_, _<_}
-use native.Mathlib.Nat.{le-refl, eq-or-lt-of-le}
+use mathlib.Core.List.{List, [], _∷_}
+use Prim.Native.Nat.{ℕ, zero, suc, _-_, _≤_, _<_}
+use native.Mathlib.Nat.{le-refl}
 use native.Mathlib.Omega.{arith}
 use lib.ListN.{length, getD, set, length-set}
 use lib.Seq.{getD-set-same, getD-set-other}
 use borrow.Author.Tests.{leb-false, not-false}
 use Rattle.duality.specs.Sums.{upd}
-use Rattle.duality.proofs.Below.{one-more}
 use Rattle.duality.proofs.Sums.{sumTo-eq, sumTo-zero, sumTo-upd, upd-all}
+use Rattle.duality.specs.Lists.{cells}
 use Rattle.board.specs.declared.record.Auction.{Auction}
 use Rattle.board.specs.declared.record.Edge.{Edge}
 use Rattle.refusals.specs.declared.Verdict.the-variants.{Served}
 use Rattle.board.specs.Limits.{maxItems, maxBidders, maxWeight}
-use Rattle.board.specs.Cells.{flagAt, withdrawnAt}
+use Rattle.board.specs.Cells.{flagAt}
 use Rattle.bidding.specs.Potential.{one}
-use Rattle.refusals.specs.Demand1.{Check, firstOf}
+use Rattle.refusals.specs.Demand1.{firstOf}
 use Rattle.board.specs.Ranges.{Within}
-use Rattle.auction.specs.Edges.{itemIn, weightIn, orderTest, edgeChecks, edgesChecks, rowTo}
+use Rattle.auction.specs.Edges.{itemIn, weightIn, edgeChecks, edgesChecks, rowTo}
 use Rattle.auction.specs.Arrive.{arriveRest}
 use Rattle.auction.specs.Withdraw.{withdrawRest}
 use Rattle.bidding.specs.Waiting.{RowFits}
 use Rattle.board.proofs.Filling.{blank}
 use Rattle.board.proofs.Tests.{within-decides}
 use Rattle.refusals.proofs.Verdicts.{served-next}
+use Rattle.refusals.proofs.Each.{each-served}
+use Rattle.auction.proofs.ItemsLaw.{ItemsAccepted, ItemServed, accepted, rises, served-items}
 use Rattle.bidding.proofs.Potentials.{rowCount}
 
 -- ---- Served checks
@@ -38,57 +39,39 @@ pub record EdgesAccepted (items : ℕ) (withdrawn : List ℕ) (item weight : ℕ
   pub weighed : (i : ℕ) → i < n → Within 1 maxWeight (weight i)
   pub rising : (i : ℕ) → suc i < n → item i < item (suc i)
 
+-- Their items
+pub edges-items : {items : ℕ} {withdrawn : List ℕ} {item weight : ℕ → ℕ} {n : ℕ} → EdgesAccepted items withdrawn item weight n → ItemsAccepted items withdrawn item n
+edges-items a = record { known = a .known; here = a .here; rising = a .rising }
+
 module _ (items : ℕ) (withdrawn : List ℕ) (item weight : ℕ → ℕ) where
   -- What is served of one edge
-  record Fine (i : ℕ) : Type 0 where
-    known : Within 1 items (item i)
-    here : flagAt withdrawn (item i - 1) ≡ false
-    weighed : Within 1 maxWeight (weight i)
-    ordered : orderTest item i ≡ false
-
-  fine : (i : ℕ) (rest : List Check) → firstOf (edgeChecks items withdrawn item weight i ++ rest) ≡ Served → Fine i × (firstOf rest ≡ Served)
+  served-edge : (i : ℕ) → firstOf (edgeChecks items withdrawn item weight i) ≡ Served → ItemServed items withdrawn item i × Within 1 maxWeight (weight i)
   unfolding edgeChecks
-  fine i rest e =
+  served-edge i e =
       let a = served-next _ _ e in
       let b = served-next _ _ (a .1) in
       let c = served-next _ _ (b .1) in
       let d = served-next _ _ (c .1) in (
-        record {
-          known = within-decides items (item i) .sound (not-false _ (a .0));
-          here = b .0;
-          weighed = within-decides maxWeight (weight i) .sound (not-false _ (c .0));
-          ordered = d .0;
-        },
-        d .1,
+        record { known = within-decides items (item i) .sound (not-false _ (a .0)); here = b .0; ordered = d .0 },
+        within-decides maxWeight (weight i) .sound (not-false _ (c .0)),
       )
 
-  each-fine : (n i : ℕ) → firstOf (edgesChecks items withdrawn item weight i n) ≡ Served → (j : ℕ) → i ≤ j → j < i + n → Fine j
-  unfolding edgesChecks
-  each-fine zero i e j l h = absurd (omega arith)
-  each-fine (suc n) i e j l h =
-      let u = fine i _ e in
-      ⊎-elim (λ (q : i ≡ j). rw q at (u .0)) (λ m. each-fine n (suc i) (u .1) j m (omega arith)) (eq-or-lt-of-le l)
-
   pub served-edges : (n : ℕ) → firstOf (edgesChecks items withdrawn item weight 0 n) ≡ Served → EdgesAccepted items withdrawn item weight n
-  unfolding orderTest
   served-edges n e =
-      let each = each-fine n 0 e in
-      record {
-        known = λ i l. each i (omega arith) (omega arith) .known;
-        here = λ i l. each i (omega arith) (omega arith) .here;
-        weighed = λ i l. each i (omega arith) (omega arith) .weighed;
-        rising = λ i l. leb-false _ _ (each (suc i) (omega arith) (omega arith) .ordered);
-      }
+      let each : (i : ℕ) → i < n → ItemServed items withdrawn item i × Within 1 maxWeight (weight i) =
+      λ i l. served-edge i (each-served _ 0 n e i (omega arith) (omega arith)) in
+      let a = accepted items withdrawn item n (λ i l. each i l .0) in
+      record { known = a .known; here = a .here; weighed = λ i l. each i l .1; rising = a .rising }
 
 pub served-arrival : (b : Auction) (edges : List Edge) → firstOf (arriveRest b edges) ≡ Served →
     (b .market .arrived < maxBidders) × EdgesAccepted (b .market .items) (b .market .withdrawn) (itemIn edges) (weightIn edges) (length edges)
 unfolding arriveRest
 served-arrival b edges e = let u = served-next _ _ e in (leb-false _ _ (u .0), served-edges (b .market .items) (b .market .withdrawn) _ _ _ (u .1))
 
-pub served-withdrawal : (b : Auction) (item : ℕ) → firstOf (withdrawRest b item) ≡ Served → Within 1 (b .market .items) item × (withdrawnAt b (item - 1) ≡ false)
+pub served-withdrawal : (b : Auction) (items : List ℕ) → firstOf (withdrawRest b items) ≡ Served →
+    ItemsAccepted (b .market .items) (b .market .withdrawn) (cells items) (length items)
 unfolding withdrawRest
-served-withdrawal b item e =
-    let u = served-next _ _ e in (within-decides (b .market .items) item .sound (not-false _ (u .0)), served-next _ _ (u .1) .0)
+served-withdrawal b items e = served-items (b .market .items) (b .market .withdrawn) (cells items) (length items) e
 
 -- ---- The row that the edges make
 
@@ -125,13 +108,9 @@ module _ {items : ℕ} {withdrawn : List ℕ} {item weight : ℕ → ℕ} where
         bare = λ k l m. row-all item weight (λ k v. items ≤ k → v ≡ 0) n (λ k l. refl) (λ i h l. absurd (omega (arith, a .known i h .low, a .known i h .high))) k l;
       }
 
+  -- The edges before the last
   pub fewer : {n : ℕ} → EdgesAccepted items withdrawn item weight (suc n) → EdgesAccepted items withdrawn item weight n
   fewer a = record { known = λ i l. a .known i (omega arith); here = λ i l. a .here i (omega arith); weighed = λ i l. a .weighed i (omega arith); rising = λ i l. a .rising i (omega arith) }
-
-  -- The items before the last are below it
-  pub below : (n : ℕ) → EdgesAccepted items withdrawn item weight (suc n) → (i : ℕ) → i < n → item i < item n
-  below zero a i l = absurd (omega arith)
-  below (suc n) a i l = one-more n (λ i. item i < item (suc n)) (λ i h. omega (arith, below n (fewer a) i h, a .rising n (omega arith))) (a .rising n (omega arith)) i l
 
   -- It has an edge for each
   pub row-count : items ≤ maxItems → (n : ℕ) → EdgesAccepted items withdrawn item weight n → rowCount items (rowTo item weight n) ≡ n
@@ -143,7 +122,7 @@ module _ {items : ℕ} {withdrawn : List ℕ} {item weight : ℕ → ℕ} where
       let known = a .known n (omega arith) in
       let count : ℕ → ℕ = λ j. one (getD r j 0) in
       let bare : count k ≡ 0 = ap one (row-all item weight (λ j v. k ≤ j → v ≡ 0) n (λ j l. refl)
-      (λ i l m. absurd (omega (arith, below n a i l, a .known i (omega arith) .low))) k (le-refl k)) in
+      (λ i l m. absurd (omega (arith, rises (edges-items a) n (omega arith) i l, a .known i (omega arith) .low))) k (le-refl k)) in
       omega (
         arith,
         sumTo-eq items (λ j. one (getD (set r k (weight n)) j 0)) (upd k (one (weight n)) count)

@@ -1,9 +1,8 @@
 -- The first 65 edges decide an arrival.
 use mathlib.Core.Path.{_≡_, refl, sym, ap, _∙_}
 use mathlib.Core.Bool.{Bool, true, false}
-use mathlib.Core.List.{List, _++_, append-assoc}
-use Prim.Native.Nat.{ℕ, zero, suc, _+_, _-_, _≤_, _<_}
-use native.Mathlib.Nat.{zero-add, add-zero}
+use mathlib.Core.List.{List}
+use Prim.Native.Nat.{_<_}
 use native.Mathlib.Omega.{arith}
 use lib.ListN.{length, take}
 use lib.Dec.{leb, ltb}
@@ -11,52 +10,32 @@ use lib.Seq.{length-take-le, getD-take, take-all}
 use borrow.Author.Tests.{leb-true, leb-false, ltb-true, ltb-false}
 use Rattle.board.specs.declared.record.Auction.{Auction}
 use Rattle.board.specs.declared.record.Edge.{Edge}
-use Rattle.refusals.specs.declared.Verdict.{Verdict}
-use Rattle.refusals.specs.declared.Verdict.the-variants.{Served, Refused}
-use Rattle.board.specs.Limits.{maxItems, maxBidders, maxEdges}
+use Rattle.board.specs.Limits.{maxBidders, maxEdges}
 use Rattle.board.specs.Cells.{edge}
 use Rattle.board.specs.SoundTest.{soundTest}
 use Rattle.refusals.specs.Demand1.{firstOf}
-use Rattle.auction.specs.Edges.{itemIn, weightIn, edgeChecks, edgesChecks}
+use Rattle.auction.specs.Edges.{itemIn, weightIn, edgesChecks}
 use Rattle.auction.specs.Arrive.{arriveOf}
 use Rattle.auction.specs.EnoughEdges.{EnoughEdges}
 use Rattle.board.proofs.SoundLaw.{sound-decides}
-use Rattle.refusals.proofs.Verdicts.{first-stops}
-use Rattle.auction.proofs.EdgesLaw.{EdgesAccepted, served-edges}
+use Rattle.refusals.proofs.Verdicts.{unserved}
+use Rattle.refusals.proofs.Each.{each-first}
+use Rattle.auction.proofs.ItemsLaw.{too-many}
+use Rattle.auction.proofs.EdgesLaw.{edges-items, served-edges}
 use Rattle.auction.proofs.CallVerdicts.{arrive-spoilt, arrive-full, arrive-refused}
 use Rattle.auction.proofs.Buffers.{edges-as}
 
-module _ (items : ℕ) (withdrawn : List ℕ) (item weight : ℕ → ℕ) where
-  -- The checks of the first m edges stand before those of the others
-  checks-split : (m n i : ℕ) → edgesChecks items withdrawn item weight i (m + n) ≡ edgesChecks items withdrawn item weight i m ++ edgesChecks items withdrawn item weight (i + m) n
-  unfolding edgesChecks
-  checks-split zero n i = rw (zero-add n, add-zero i)
-  checks-split (suc m) n i =
-      let e : suc m + n ≡ suc (m + n) = omega arith in
-      let f : i + suc m ≡ suc i + m = omega arith in
-      rw (e, f, append-assoc) (ap (λ l. edgeChecks items withdrawn item weight i ++ l) (checks-split m n (suc i)))
-
-  -- Rising from 1 on, the item of cell i is above i
-  rising-above : {n : ℕ} → EdgesAccepted items withdrawn item weight n → (i : ℕ) → i < n → i < item i
-  rising-above a zero l = a .known zero l .low
-  rising-above a (suc i) l = omega (arith, rising-above a i (omega arith), a .rising i l)
-
-  too-many : items ≤ maxItems → EdgesAccepted items withdrawn item weight maxEdges → ⊥
-  too-many h a = omega (arith, rising-above a maxItems (omega arith), a .known maxItems (omega arith) .high)
-
 module _ (b : Auction) (edges : List Edge) where
   by-first : soundTest b ≡ true → b .market .arrived < maxBidders → maxEdges < length edges → arriveOf b edges ≡ arriveOf b (take maxEdges edges)
-  by-first s l h = go (firstOf (edgesChecks (b .market .items) (b .market .withdrawn) (itemIn edges) (weightIn edges) 0 maxEdges)) refl
-    where
-      go : (v : Verdict) → firstOf (edgesChecks (b .market .items) (b .market .withdrawn) (itemIn edges) (weightIn edges) 0 maxEdges) ≡ v → arriveOf b edges ≡ arriveOf b (take maxEdges edges)
-      go Served e = absurd (too-many _ _ _ _ (sound-decides b .sound s .items .1) (served-edges _ _ _ _ _ e))
-      go (Refused r) e =
-          let q : length edges ≡ maxEdges + (length edges - maxEdges) = omega arith in
-          let same = edges-as (b .market .items) (b .market .withdrawn) (itemIn (take maxEdges edges)) (itemIn edges) (weightIn (take maxEdges edges)) (weightIn edges) 0 maxEdges
-          (λ j k. ap (λ (e : Edge). e .item) (getD-take maxEdges edges j (edge 0 0) (omega arith)))
-          (λ j k. ap (λ (e : Edge). e .weight .0) (getD-take maxEdges edges j (edge 0 0) (omega arith))) in
-          arrive-refused b edges s l r (rw (q, checks-split (b .market .items) (b .market .withdrawn) (itemIn edges) (weightIn edges) maxEdges (length edges - maxEdges) 0) (first-stops _ _ r e))
-          ∙ sym (arrive-refused b (take maxEdges edges) s l r (rw (length-take-le maxEdges edges (omega arith)) (ap firstOf same ∙ e)))
+  by-first s l h =
+      let m = b .market in
+      let (r, e) = unserved (edgesChecks (m .items) (m .withdrawn) (itemIn edges) (weightIn edges) 0 maxEdges)
+      (λ e. too-many (edges-items (served-edges _ _ _ _ _ e)) (sound-decides b .sound s .items .1) (omega arith)) in
+      let same = edges-as (m .items) (m .withdrawn) (itemIn (take maxEdges edges)) (itemIn edges) (weightIn (take maxEdges edges)) (weightIn edges) maxEdges
+      (λ j k. ap (λ (e : Edge). e .item) (getD-take maxEdges edges j (edge 0 0) k))
+      (λ j k. ap (λ (e : Edge). e .weight .0) (getD-take maxEdges edges j (edge 0 0) k)) in
+      arrive-refused b edges s l r (each-first _ maxEdges (length edges) r (omega arith) e)
+      ∙ sym (arrive-refused b (take maxEdges edges) s l r (rw (length-take-le maxEdges edges (omega arith)) (ap firstOf same ∙ e)))
 
   by-length : soundTest b ≡ true → b .market .arrived < maxBidders → (t : Bool) → ltb maxEdges (length edges) ≡ t → arriveOf b edges ≡ arriveOf b (take maxEdges edges)
   by-length s l true e = by-first s l (ltb-true _ _ e)

@@ -1,5 +1,5 @@
 -- An accepted list is the new bidder's edges, and a chain of bids leaves every bidder's edges as they were.
-use mathlib.Core.Path.{_≡_, refl, ap, _∙_}
+use mathlib.Core.Path.{_≡_, refl, ap, ap₂, _∙_}
 use mathlib.Core.List.{List, [], _∷_, _++_, append-nil}
 use Prim.Native.Nat.{ℕ, zero, suc, _+_, _-_, _≤_, _<_}
 use native.Mathlib.Nat.{le-refl, mul-le-mul}
@@ -10,16 +10,18 @@ use borrow.Author.Tests.{eq-eqb, ne-eqb}
 use Rattle.board.specs.declared.record.Auction.{Auction}
 use Rattle.board.specs.declared.record.Edge.{Edge}
 use Rattle.board.specs.Limits.{maxItems, maxBidders}
-use Rattle.board.specs.Cells.{edge}
+use Rattle.board.specs.Cells.{edge, rowIn}
 use Rattle.board.specs.Live.{edgesIn, edgesOf}
 use Rattle.board.specs.Sound.{Formed}
 use Rattle.bidding.specs.Rule.{Chain, stays, takes, displaces, placedAt, displaced}
-use Rattle.bidding.specs.Moves.{entered, released}
+use Rattle.bidding.specs.Moves.{entered}
+use Rattle.bidding.specs.Withdrawals.{Chains, ended, next}
+use Rattle.bidding.specs.WithdrawalLaws.{AllGone}
 use Rattle.board.proofs.Filling.{blank}
 use Rattle.board.proofs.Filed.{other-row, new-row}
 use Rattle.auction.specs.Edges.{itemIn, weightIn, rowTo}
-use Rattle.auction.specs.Demand2.{Leaves, free, held}
-use Rattle.auction.proofs.EdgesLaw.{EdgesAccepted, row-all, row-length, fewer, below}
+use Rattle.auction.proofs.EdgesLaw.{EdgesAccepted, edges-items, row-all, row-length, fewer}
+use Rattle.auction.proofs.ItemsLaw.{rises}
 
 -- ---- The edges of a row
 
@@ -66,11 +68,11 @@ module _ {items : ℕ} {withdrawn : List ℕ} {item weight : ℕ → ℕ} (fit :
       let d : m ≡ suc j + (m - suc j) = omega (arith, l n (omega arith), known .low) in
       let size : j < length r = omega (arith, row-length item weight n, known .high, known .low) in
       let bare : (k : ℕ) → j ≤ k → getD r k 0 ≡ 0 = λ k h. row-all item weight (λ k v. j ≤ k → v ≡ 0) n (λ k h. refl)
-      (λ i q h. absurd (omega (arith, below n a i q, a .known i (omega arith) .low))) k h in
+      (λ i q h. absurd (omega (arith, rises (edges-items a) n (omega arith) i q, a .known i (omega arith) .low))) k h in
       ap (edgesIn (set r j (weight n))) d
       ∙ edges-bare (set r j (weight n)) (suc j) (m - suc j) (λ k h. getD-set-other r j k (weight n) 0 (λ q. omega arith) ∙ bare k (omega arith))
       ∙ edges-stored r j (weight n) size (a .weighed n (omega arith) .low)
-      ∙ rw (next, row-edges n (fewer a) j (λ i q. omega (arith, below n a i q, known .low)))
+      ∙ rw (next, row-edges n (fewer a) j (λ i q. omega (arith, rises (edges-items a) n (omega arith) i q, known .low)))
 
 first-edges : (edges : List Edge) (n : ℕ) → n ≤ length edges → firstEdges (itemIn edges) (weightIn edges) n ≡ take n edges
 first-edges edges zero l = refl
@@ -102,7 +104,9 @@ chain-edges (stays e) h = refl
 chain-edges (takes e f) h = refl
 chain-edges (displaces e f r) h = chain-edges r h
 
-pub leaves-edges : {b c : Auction} {k n : ℕ} → Leaves b k c n → (h : ℕ) → edgesOf c h ≡ edgesOf b h
-unfolding released displaced
-leaves-edges (free e) h = refl
-leaves-edges (held e r) h = chain-edges r h
+pub chains-edges : {b c : Auction} {xs : List ℕ} {n : ℕ} → Chains b xs c n → (h : ℕ) → edgesOf c h ≡ edgesOf b h
+chains-edges ended h = refl
+chains-edges (next r t) h = chains-edges t h ∙ chain-edges r h
+
+pub gone-edges : {b c : Auction} {item : ℕ → ℕ} {n : ℕ} → AllGone b item n c → (h : ℕ) → edgesOf c h ≡ edgesOf b h
+gone-edges g h = ap₂ (λ (w : List ℕ) (m : ℕ). edgesIn (rowIn w h) m) (g .weights) (g .items)

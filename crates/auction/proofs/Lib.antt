@@ -7,9 +7,13 @@ pub mod EdgeTests
 pub mod EdgeVerdicts
 pub mod EdgesLaw
 pub mod EnoughEdges
+pub mod EnoughItems
 pub mod Entries
 pub mod Gathered
 pub mod Histories
+pub mod ItemVerdicts
+pub mod ItemsLaw
+pub mod OneItem
 pub mod Opening
 pub mod ReadOuts
 pub mod Rows

@@ -33,10 +33,10 @@ ArriveDemand1 =
 
 abbrev pub WithdrawDemand1 : Type 0
 WithdrawDemand1 =
-    (b : Auction) (item : ℕ) →
-    Demand1 (WithdrawMet b item) (withdrawChecks b item)
-    (λ r. WithdrawAnswers b item b (refused r))
-    ((c : Auction) × (n : ℕ) × WithdrawAnswers b item c (served n))
+    (b : Auction) (items : List ℕ) →
+    Demand1 (WithdrawMet b items) (withdrawChecks b items)
+    (λ r. WithdrawAnswers b items b (refused r))
+    ((c : Auction) × (n : ℕ) × WithdrawAnswers b items c (served n))
 
 -- A read-out takes the board by value, so that the caller's is as it was
 abbrev pub ReadOutDemand1 : Type 0
@@ -53,12 +53,17 @@ abbrev pub entryCodes : ℕ → ℕ → List Code
 entryCodes i zero = []
 entryCodes i (suc n) = code 4 i ∷ code 5 i ∷ code 6 i ∷ code 7 i ∷ entryCodes (suc i) n
 
+-- "kettle by kettle 4, 5, 7" (document 02, R-3): of n items, the first of which is item i of the list
+abbrev pub itemCodes : ℕ → ℕ → List Code
+itemCodes i zero = []
+itemCodes i (suc n) = code 4 i ∷ code 5 i ∷ code 7 i ∷ itemCodes (suc i) n
+
 pub record CallOrders : Type 0 where
   -- "Order: open 1, 2."
   pub opens : (items p q : ℕ) → codesOf (openChecks items p q) ≡ code 1 0 ∷ code 2 0 ∷ []
   -- "Arrive 13, 3, then entry by entry 4, 5, 6, 7." "Entries count from 1."
   pub arrives : (b : Auction) (edges : List Edge) → codesOf (arriveChecks b edges) ≡ code 13 0 ∷ code 3 0 ∷ entryCodes 1 (length edges)
-  -- "Withdraw 13, 4, 5."
-  pub withdraws : (b : Auction) (item : ℕ) → codesOf (withdrawChecks b item) ≡ code 13 0 ∷ code 4 0 ∷ code 5 0 ∷ []
+  -- "Answers: 13, then kettle by kettle 4, 5, 7 .. their place counts kettles in the list, also in a list of one" (document 02, R-3)
+  pub withdraws : (b : Auction) (items : List ℕ) → codesOf (withdrawChecks b items) ≡ code 13 0 ∷ itemCodes 1 (length items)
   -- "Read-out and exact 13, 8."
   pub reads : (b : Auction) (l : Lists) → codesOf (readOutChecks b l) ≡ code 13 0 ∷ code 8 0 ∷ []

@@ -8,17 +8,19 @@ use Rattle.duality.specs.Cover.{total}
 use Rattle.duality.specs.Lists.{cells}
 use Rattle.board.specs.declared.record.Auction.{Auction}
 use Rattle.board.specs.declared.record.Edge.{Edge}
-use Rattle.board.specs.declared.record.Holder.the-variants.{Held, Free}
+use Rattle.board.specs.declared.record.Holder.the-variants.{Free}
 use Rattle.auction.specs.declared.arrive.Arrival.{Arrival}
 use Rattle.auction.specs.declared.withdraw.Withdrawal.{Withdrawal}
 use Rattle.board.specs.Cells.{priceAt, gainAt, holderAt, holderOf}
 use Rattle.board.specs.Live.{live, matchingOf, matchingWeight, edgesOf}
 use Rattle.refusals.specs.Told.{served}
 use Rattle.board.specs.Sound.{Sound}
-use Rattle.bidding.specs.Rule.{Chain, displaced, done}
+use Rattle.bidding.specs.Rule.{Chain, done}
 use Rattle.auction.specs.Edges.{itemIn, weightIn, rowTo}
 use Rattle.auction.specs.Arrive.{arriveOf, ArriveAnswers}
-use Rattle.bidding.specs.Moves.{entered, released}
+use Rattle.bidding.specs.Moves.{entered}
+use Rattle.bidding.specs.Withdrawals.{vacatedTo, displacedBy, Chains}
+use Rattle.bidding.specs.WithdrawalLaws.{AllGone, InNumberOrder}
 use Rattle.auction.specs.Withdraw.{withdrawOf, WithdrawAnswers}
 use Rattle.auction.specs.ReadOut.{ReadOutAnswers}
 use Rattle.board.specs.Lent.{Lists}
@@ -29,7 +31,7 @@ abbrev pub ArriveEnds : Type 0
 ArriveEnds = (b : Auction) (edges : List Edge) → (r : Arrival) × (arriveOf b edges ≡ done r)
 
 abbrev pub WithdrawEnds : Type 0
-WithdrawEnds = (b : Auction) (item : ℕ) → (r : Withdrawal) × (withdrawOf b item ≡ done r)
+WithdrawEnds = (b : Auction) (items : List ℕ) → (r : Withdrawal) × (withdrawOf b items ≡ done r)
 
 -- ---- "each accepted call makes the bids of the paper's rule, no more and no fewer, and leaves the plan, prices and gains they give": the rule's own
 -- chain, its length returned; the entries of the board; and the board after is sound
@@ -45,19 +47,17 @@ pub record Arrives (b : Auction) (edges : List Edge) (c : Auction) (n : ℕ) : T
 abbrev pub ArriveDemand2 : Type 0
 ArriveDemand2 = (b c : Auction) (edges : List Edge) (n : ℕ) → ArriveAnswers b edges c (served n) → Arrives b edges c n
 
--- The item's holder, if any, begins a chain; where nobody held it there is no bid
-pub data Leaves (b : Auction) (k : ℕ) : Auction → ℕ → Type 0 where
-  free : holderOf (holderAt b k) ≡ Free → Leaves b k (released b k) 0
-  held : {x n : ℕ} {c : Auction} → holderOf (holderAt b k) ≡ Held x → Chain (displaced (released b k) x) x c n → Leaves b k c n
-
-pub record Withdraws (b : Auction) (item : ℕ) (c : Auction) (n : ℕ) : Type 0 where
+-- "All go first; then the displaced batches bid in number order, each chain run to its end" (document 02, R-3)
+pub record Withdraws (b : Auction) (items : List ℕ) (c : Auction) (n : ℕ) : Type 0 where
   pub before : Sound b
-  pub leaves : Leaves b (item - 1) c n
+  pub gone : AllGone b (cells items) (length items) (vacatedTo b (cells items) (length items))
+  pub order : InNumberOrder b (cells items) (length items) (displacedBy b (cells items) (length items))
+  pub chains : Chains (vacatedTo b (cells items) (length items)) (displacedBy b (cells items) (length items)) c n
   pub others : (i : ℕ) → edgesOf c i ≡ edgesOf b i
   pub after : Sound c
 
 abbrev pub WithdrawDemand2 : Type 0
-WithdrawDemand2 = (b c : Auction) (item n : ℕ) → WithdrawAnswers b item c (served n) → Withdraws b item c n
+WithdrawDemand2 = (b c : Auction) (items : List ℕ) (n : ℕ) → WithdrawAnswers b items c (served n) → Withdraws b items c n
 
 -- ---- On every sound board, also one that no history reaches
 

@@ -10,6 +10,7 @@ use Rattle.refusals.specs.declared.Refusal.the-variants.{Unknown, Gone, Worth, 
 use Rattle.board.specs.Limits.{maxItems, maxWeight, maxEdges}
 use Rattle.board.specs.Cells.{edge, flagAt}
 use Rattle.refusals.specs.Demand1.{Check, checkFor}
+use Rattle.refusals.specs.Each.{eachChecks}
 use Rattle.board.specs.Ranges.{withinTest}
 
 -- The item and the weight of the edge in a cell of a list
@@ -24,7 +25,7 @@ unfoldable pub orderTest : (ℕ → ℕ) → ℕ → Bool
 orderTest item zero = false
 orderTest item (suc i) = leb (item (suc i)) (item i)
 
--- "entry by entry 4, 5, 6, 7": the checks of one edge, and of n edges from cell i on. `item` and `weight` read the edges' cells
+-- "entry by entry 4, 5, 6, 7": the checks of one edge. `item` and `weight` read the edges' cells
 unfoldable pub edgeChecks : ℕ → List ℕ → (ℕ → ℕ) → (ℕ → ℕ) → ℕ → List Check
 edgeChecks items withdrawn item weight i =
     checkFor (Unknown (suc i)) (not (withinTest items (item i))) ∷
@@ -32,10 +33,9 @@ edgeChecks items withdrawn item weight i =
     (checkFor (Worth (suc i)) (not (withinTest maxWeight (weight i))) ∷
     (checkFor (Order (suc i)) (orderTest item i) ∷ [])))
 
-unfoldable pub edgesChecks : ℕ → List ℕ → (ℕ → ℕ) → (ℕ → ℕ) → ℕ → ℕ → List Check
-edgesChecks items withdrawn item weight i zero = []
-edgesChecks items withdrawn item weight i (suc n) =
-    edgeChecks items withdrawn item weight i ++ edgesChecks items withdrawn item weight (suc i) n
+-- Of n edges from cell i on
+abbrev pub edgesChecks : ℕ → List ℕ → (ℕ → ℕ) → (ℕ → ℕ) → ℕ → ℕ → List Check
+edgesChecks items withdrawn item weight i n = eachChecks (edgeChecks items withdrawn item weight) i n
 
 -- The row that the first n edges make: each weight in its item's cell
 unfoldable pub rowTo : (ℕ → ℕ) → (ℕ → ℕ) → ℕ → List ℕ

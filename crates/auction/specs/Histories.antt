@@ -28,7 +28,7 @@ pub data Reached : Auction → ℕ → ℕ → Type 0 where
   opens : (items p q : ℕ) → openOf items p q ≡ record { auction = opened items p q; answer = Opened.Ready } → Reached (opened items p q) 0 0
   arrives : {b : Auction} {e n : ℕ} (edges : List Edge) (r : Arrival) → Reached b e n → arriveOf b edges ≡ done r →
       Reached (r .auction) (e + edgesAdded (r .answer) edges) (n + arrivedTold (r .answer) .value)
-  withdraws : {b : Auction} {e n : ℕ} (item : ℕ) (r : Withdrawal) → Reached b e n → withdrawOf b item ≡ done r →
+  withdraws : {b : Auction} {e n : ℕ} (items : List ℕ) (r : Withdrawal) → Reached b e n → withdrawOf b items ≡ done r →
       Reached (r .auction) e (n + withdrawnTold (r .answer) .value)
 
 -- "Over every history from opening, the bids number at most the entries ever accepted times the whole part of (q - 1)/p"

@@ -1,5 +1,6 @@
--- What the calls mean. The statements of the theorems are Demand1, Demand2, Histories and EnoughEdges.
+-- What the calls mean. The statements of the theorems are Demand1, Demand2, Histories, EnoughEdges, EnoughItems and OneItem.
 pub mod Edges
+pub mod Items
 pub mod Arrive
 pub mod Withdraw
 pub mod ReadOut
@@ -7,3 +8,5 @@ pub mod Demand1
 pub mod Demand2
 pub mod Histories
 pub mod EnoughEdges
+pub mod EnoughItems
+pub mod OneItem

@@ -1,11 +1,13 @@
--- Withdraw: "13, 4, 5".
+-- Withdraw a list of items (document 02, R-3): "13, then kettle by kettle 4, 5, 7, nothing withdrawn if any fails".
 use mathlib.Core.Path.{_≡_}
 use mathlib.Core.Bool.{true, not}
-use mathlib.Core.List.{List, [], _∷_}
-use Prim.Native.Nat.{ℕ, _-_}
+use mathlib.Core.List.{List, _∷_}
+use Prim.Native.Nat.{ℕ, suc, _-_, _≤_, _<_}
+use lib.ListN.{length}
+use Rattle.duality.specs.Lists.{cells}
 use Rattle.board.specs.declared.record.Auction.{Auction}
 use Rattle.refusals.specs.declared.Refusal.{Refusal}
-use Rattle.refusals.specs.declared.Refusal.the-variants.{Unknown, Gone, Spoilt}
+use Rattle.refusals.specs.declared.Refusal.the-variants.{Unknown, Gone, Order, Spoilt}
 use Rattle.refusals.specs.declared.Verdict.{Verdict}
 use Rattle.refusals.specs.declared.Told.{Told}
 use Rattle.refusals.specs.Told.{served, refused}
@@ -15,20 +17,28 @@ use Rattle.board.specs.Cells.{withdrawnAt}
 use Rattle.board.specs.Sound.{Sound}
 use Rattle.board.specs.SoundTest.{soundTest}
 use Rattle.bidding.specs.Rule.{AfterChain, Outcome, done, spent}
-use Rattle.board.specs.Ranges.{withinTest, Within}
+use Rattle.board.specs.Ranges.{Within}
 use Rattle.refusals.specs.Demand1.{Check, checkFor, firstOf}
-use Rattle.bidding.specs.Moves.{withdrawnOf}
+use Rattle.bidding.specs.Withdrawals.{withdrawnOf}
+use Rattle.auction.specs.Items.{itemsChecks}
 
-pub data WithdrawMet (b : Auction) (item : ℕ) : Refusal → Type 0 where
-  spoilt : (Sound b → ⊥) → WithdrawMet b item Spoilt
-  unknown : (Within 1 (b .market .items) item → ⊥) → WithdrawMet b item (Unknown 0)
-  gone : withdrawnAt b (item - 1) ≡ true → WithdrawMet b item (Gone 0)
+-- The rows of the table, of items that the list has: "their place counts kettles in the list, also in a list of one"
+pub data WithdrawMet (b : Auction) (items : List ℕ) : Refusal → Type 0 where
+  -- "the board handed in is not sound"
+  spoilt : (Sound b → ⊥) → WithdrawMet b items Spoilt
+  -- "kettle not 1 to k"
+  unknown : {i : ℕ} → i < length items → (Within 1 (b .market .items) (cells items i) → ⊥) → WithdrawMet b items (Unknown (suc i))
+  -- "kettle withdrawn"; "5 is read from the board handed in"
+  gone : {i : ℕ} → i < length items → withdrawnAt b (cells items i - 1) ≡ true → WithdrawMet b items (Gone (suc i))
+  -- "strictly rising"; "a live kettle named twice is 7"
+  order : {i : ℕ} → suc i < length items → cells items (suc i) ≤ cells items i → WithdrawMet b items (Order (suc (suc i)))
 
-unfoldable pub withdrawRest : Auction → ℕ → List Check
-withdrawRest b item = checkFor (Unknown 0) (not (withinTest (b .market .items) item)) ∷ (checkFor (Gone 0) (withdrawnAt b (item - 1)) ∷ [])
+-- The checks after that of soundness, and all
+unfoldable pub withdrawRest : Auction → List ℕ → List Check
+withdrawRest b items = itemsChecks (b .market .items) (b .market .withdrawn) (cells items) 0 (length items)
 
-abbrev pub withdrawChecks : Auction → ℕ → List Check
-withdrawChecks b item = checkFor Spoilt (not (soundTest b)) ∷ withdrawRest b item
+abbrev pub withdrawChecks : Auction → List ℕ → List Check
+withdrawChecks b items = checkFor Spoilt (not (soundTest b)) ∷ withdrawRest b items
 
 abbrev pub withdrawal : Auction → Withdrawn → Withdrawal
 withdrawal b a = record { auction = b; answer = a }
@@ -37,12 +47,12 @@ unfoldable pub withdrawalOf : Outcome AfterChain → Outcome Withdrawal
 withdrawalOf spent = spent
 withdrawalOf (done s) = done (withdrawal (s .auction) (Withdrawn.Bids (s .bids)))
 
-unfoldable pub withdrawBy : Auction → ℕ → Verdict → Outcome Withdrawal
-withdrawBy b item Verdict.Served = withdrawalOf (withdrawnOf b (item - 1))
-withdrawBy b item (Verdict.Refused r) = done (withdrawal b (Withdrawn.Refused r))
+unfoldable pub withdrawBy : Auction → List ℕ → Verdict → Outcome Withdrawal
+withdrawBy b items Verdict.Served = withdrawalOf (withdrawnOf b (cells items) (length items))
+withdrawBy b items (Verdict.Refused r) = done (withdrawal b (Withdrawn.Refused r))
 
-unfoldable pub withdrawOf : Auction → ℕ → Outcome Withdrawal
-withdrawOf b item = withdrawBy b item (firstOf (withdrawChecks b item))
+unfoldable pub withdrawOf : Auction → List ℕ → Outcome Withdrawal
+withdrawOf b items = withdrawBy b items (firstOf (withdrawChecks b items))
 
 -- What is told: "Arrive and withdraw return the number of bids made"
 abbrev pub withdrawnTold : Withdrawn → Told
@@ -50,7 +60,7 @@ withdrawnTold (Withdrawn.Bids n) = served n
 withdrawnTold (Withdrawn.Refused r) = refused r
 
 -- A withdrawal leaves the board c, and tells t
-pub record WithdrawAnswers (b : Auction) (item : ℕ) (c : Auction) (t : Told) : Type 0 where
+pub record WithdrawAnswers (b : Auction) (items : List ℕ) (c : Auction) (t : Told) : Type 0 where
   pub answer : Withdrawn
-  pub outcome : withdrawOf b item ≡ done (withdrawal c answer)
+  pub outcome : withdrawOf b items ≡ done (withdrawal c answer)
   pub tells : withdrawnTold answer ≡ t

@@ -9,7 +9,7 @@ ghost use Prim.Native.Nat.{ℕ, _+_, _≤_, _<_, min};
 ghost use Rattle.board.specs.Limits.{maxItems, maxEdges, maxWeight};
 ghost use Rattle.refusals.specs.Demand1.{firstOf};
 ghost use Rattle.board.specs.Ranges.{Within};
-ghost use lib.ListN.{take};
+ghost use lib.ListN.{length, take};
 ghost use Rattle.duality.specs.Lists.{cells};
 ghost use Rattle.auction.specs.Edges.{orderTest, edgeChecks, edgesChecks, rowTo, bufferEdges, emptyBuffer, pushed};
 
@@ -21,9 +21,9 @@ pub struct EdgeBuffer {
     pub count: u64,
 }
 
-// Whether the edge of cell i is not above the one before.
-fn is_unordered(items: &[u64; Auction::MAX_EDGES], i: usize) -> bool
-    requires { ⌜ i < maxEdges ⌝ }
+// Whether the item of cell i is not above the one before.
+pub(crate) fn is_unordered(items: &[u64], i: usize) -> bool
+    requires { ⌜ i < length (now items) ⌝ }
     ensures { λ r. ⌜ r ≡ orderTest (cells (now (items .entry))) i ⌝ }
 {
     if i < 1 {
@@ -102,8 +102,8 @@ pub(crate) fn row_of<'a>(
     row
 }
 
-// How many of so many edges are looked at.
-fn enough(count: usize) -> usize
+// How many of so many edges or items are looked at.
+pub fn enough(count: usize) -> usize
     ensures { λ r. ⌜ r ≡ min count maxEdges ⌝ }
 {
     if count < Auction::MAX_EDGES {

@@ -2,5 +2,6 @@
 // replay uses on a board that it knows to be sound, do.
 pub mod arrive;
 pub mod edges; // an arrival's edges: tested, and written as a row
+pub mod items; // a withdrawal's items, tested
 pub mod read_out;
 pub mod withdraw;

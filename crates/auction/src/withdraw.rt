@@ -1,11 +1,12 @@
-// Withdraw: an item leaves the live edges, and its holder bids.
+// Withdraw: items leave the live edges, and then those who held one bid.
+use crate::items::items_verdict;
 use bidding::moves::release;
-use board::ranges::is_within;
 use board::record::Auction;
 use board::record::Market;
 use board::record::State;
 use board::sound::is_sound_in;
 use refusals::Refusal;
+use refusals::Verdict;
 ghost use mathlib.Core.Path.{_≡_};
 ghost use Rattle.board.specs.Cells.{auction};
 ghost use Rattle.board.specs.Sound.{Sound};
@@ -35,39 +36,33 @@ pub fn withdraw_in(
     market: Market,
     weights: &[u32; Auction::MAX_CELLS],
     state: State,
-    item: u64,
+    items: &[u64],
 ) -> WithdrawalIn
     requires { ⌜ Sound (auction market (now weights) state) ⌝ }
-    ensures { λ r. ⌜ done (withdrawal (auction (r .market) (now (weights .entry)) (r .state)) (r .answer)) ≡ withdrawOf (auction market (now (weights .entry)) state) item ⌝ }
+    ensures { λ r. ⌜ done (withdrawal (auction (r .market) (now (weights .entry)) (r .state)) (r .answer)) ≡
+        withdrawOf (auction market (now (weights .entry)) state) (now (items .entry)) ⌝ }
 {
-    if !is_within(market.items, item) {
+    let verdict = items_verdict(items, &market.withdrawn, market.items);
+    let Verdict::Refused(refusal) = verdict else {
+        let moved = release(market, weights, state, items);
+        let after = moved.market;
+        let settled = moved.state;
         return WithdrawalIn {
-            market,
-            state,
-            answer: Withdrawn::Refused(Refusal::Unknown(0)),
+            market: after,
+            state: settled,
+            answer: Withdrawn::Bids(moved.bids),
         };
-    }
-    let k = (item - 1) as usize;
-    if market.withdrawn[k] != 0 {
-        return WithdrawalIn {
-            market,
-            state,
-            answer: Withdrawn::Refused(Refusal::Gone(0)),
-        };
-    }
-    let moved = release(market, weights, state, k);
-    let after = moved.market;
-    let settled = moved.state;
+    };
     WithdrawalIn {
-        market: after,
-        state: settled,
-        answer: Withdrawn::Bids(moved.bids),
+        market,
+        state,
+        answer: Withdrawn::Refused(refusal),
     }
 }
 
-// An item is withdrawn, and its holder bids.
-pub fn withdraw(mut auction: Auction, item: u64) -> Withdrawal
-    ensures { λ r. ⌜ done r ≡ withdrawOf auction item ⌝ }
+// The items of a slice of any length are withdrawn, and then those who held one bid.
+pub fn withdraw(mut auction: Auction, items: &[u64]) -> Withdrawal
+    ensures { λ r. ⌜ done r ≡ withdrawOf auction (now (items .entry)) ⌝ }
 {
     let market = auction.market;
     let state = auction.state;
@@ -77,7 +72,7 @@ pub fn withdraw(mut auction: Auction, item: u64) -> Withdrawal
             answer: Withdrawn::Refused(Refusal::Spoilt),
         };
     }
-    let end = withdraw_in(market, &auction.weights, state, item);
+    let end = withdraw_in(market, &auction.weights, state, items);
     let after = end.market;
     auction.market = after;
     let settled = end.state;

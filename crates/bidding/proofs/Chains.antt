@@ -1,8 +1,10 @@
 -- The chain of bids: there is one outcome, it is sound, its bids are bounded, and the computed chain is it.
-use mathlib.Core.Path.{_≡_, refl, ap, subst₂, _∙_}
+use mathlib.Core.Path.{_≡_, refl, sym, ap, subst₂, _∙_}
 use mathlib.Core.Logic.{_⊎_}
+use mathlib.Core.Bool.{true}
 use Prim.Native.Nat.{ℕ, zero, suc, _+_, _<_}
 use native.Mathlib.Omega.{arith}
+use Rattle.duality.proofs.Decide.{clash, false-is, true-decides}
 use Rattle.board.specs.declared.record.Auction.{Auction}
 use Rattle.board.specs.declared.units.Pence.{Pence}
 use Rattle.board.specs.declared.units.Scaled.{Scaled}
@@ -14,7 +16,7 @@ use Rattle.board.specs.Cells.{priceAt, holderAt, holderOf}
 use Rattle.board.specs.Live.{live}
 use Rattle.bidding.specs.Potential.{edgeCount, potential, bidLimit}
 use Rattle.bidding.specs.Rule.{Chosen, NoneOpen, placedAt, bidden, displaced, Chain, stays, takes, displaces, done, bestFor, afterChain, handOver, bidOf, settleOf, fuelOf}
-use Rattle.bidding.specs.Waiting.{SoundBut, Nobody, Ready}
+use Rattle.bidding.specs.Waiting.{SoundBut, Ready}
 use Rattle.bidding.specs.RuleLaws.{ChainOnce, Ends, ChainEnds, SettleIsChain}
 use Rattle.bidding.proofs.Choices.{chosen-once, best-at, best-nothing}
 use Rattle.bidding.proofs.Bids.{chosen-admissible, stays-sound, free-bid-sound, held-bid-sound}
@@ -153,10 +155,10 @@ settle-is-chain waits b i s li rests =
     let sum : 0 + r .more ≡ r .more = omega arith in
     record { board = r .board; bids = r .more; computed = rw sum at (r .computed); chain = r .chain }
 
--- ---- For a loop that makes the chain: one bidder is to bid
+-- ---- For a loop that makes the chain: one bidder is to bid, and others wait
 pub ready-on : {b : Auction} {i k x : ℕ} {v : Pence} {u : Scaled} → Ready b i → bestFor b i ≡ At k v u → holderOf (holderAt b k) ≡ Held x →
     Ready (displaced (bidden b i k) x) x
 ready-on {b} {i} {k} {x} {v} {u} r e f =
     let a = chosen-admissible (best-at _ _ _ _ _ k v u e .chosen) in
-    let d = held-bid-sound Nobody b i k x _ _ (r .sound) (r .bidder) (λ z. z) a f in
-    record { bidder = d .bidder; sound = d .sound }
+    let d = held-bid-sound (λ h. r .others h ≡ true) b i k x _ _ (r .sound) (r .bidder) (λ t. clash _ t (r .new)) a f in
+    record { bidder = d .bidder; others = r .others; new = sym (false-is (r .others x) (true-decides _) (d .new)); sound = d .sound }

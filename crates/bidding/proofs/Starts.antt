@@ -1,33 +1,34 @@
 -- An arrival and a withdrawal begin a chain: the board is sound but for the bidder that is to bid.
-use mathlib.Core.Path.{_≡_, refl, ap, _∙_, fun-ext}
-use mathlib.Core.Logic.{_≢_, _⊎_, inl, inr, ⊎-elim, by-cases}
-use mathlib.Core.Bool.{true}
+use mathlib.Core.Path.{_≡_, refl, sym, ap, _∙_, fun-ext}
+use mathlib.Core.Logic.{_≢_, _⊎_, inl, inr, ⊎-elim, ⊎-map, by-cases}
+use mathlib.Core.Bool.{Bool, true, false}
 use mathlib.Core.List.{List}
 use Prim.Native.Nat.{ℕ, zero, suc, _+_, _≤_, _<_, _*_}
-use native.Mathlib.Nat.{le-refl}
+use native.Mathlib.Nat.{le-refl, suc-inj}
 use native.Mathlib.Decide.{ℕ-discrete}
 use native.Mathlib.Omega.{arith}
 use lib.ListN.{length, getD, set, length-set}
 use lib.Seq.{getD-set-same, getD-set-other, length-sets}
 use Rattle.duality.specs.Sums.{upd}
 use Rattle.duality.proofs.Below.{one-more}
+use Rattle.duality.proofs.Decide.{clash}
 use Rattle.duality.proofs.Sums.{upd-all}
 use Rattle.duality.proofs.Exchange.{Holder}
 use Rattle.board.specs.declared.record.Auction.{Auction}
-use Rattle.board.specs.declared.record.Holder.the-variants.{Held, Free}
 use Rattle.board.specs.Limits.{maxBidders, maxWeight, maxItems}
 use Rattle.board.specs.Cells.{scaled, flagAt, priceAt, gainAt, holderAt, holderOf, rowAt}
 use Rattle.board.specs.Live.{liveIn, live, matchingOf}
 use Rattle.board.specs.Sound.{Sound}
 use Rattle.bidding.specs.Rule.{displaced}
 use Rattle.bidding.specs.Moves.{entered, released}
+use Rattle.bidding.specs.Withdrawals.{displacedIf, vacated}
 use Rattle.bidding.specs.Waiting.{SoundBut, Ready, RowFits}
 use Rattle.bidding.proofs.Waiting.{sound-is-settled}
 use Rattle.bidding.proofs.Matchings.{Names, names-are, named-by, holds, unheld, cleared}
 use Rattle.bidding.proofs.Leaving.{leaves}
 use Rattle.bidding.proofs.Frame.{Framed, waits-or, framed, settled-for, sound-as, scaled-other, scaled-clear, row-kept, row-new}
 use Rattle.bidding.proofs.Placed.{gain-displaced, displaced-none, framed-displaced}
-use Rattle.bidding.proofs.Bids.{cell-free, cell-held, waits-as}
+use Rattle.bidding.proofs.Bids.{waits-as}
 
 -- ---- A new bidder
 
@@ -90,9 +91,13 @@ arrival-sound {waits} {b} {row} s room r =
         (λ (e : i ≡ b .market .arrived). rw (e, row-new b row (r .sized) (s .formed) room) p)
         (λ ne. rw (row-kept b row i (r .sized) ne) (f (omega arith)))
 
+-- On a sound board nobody waits
+nobody-waits : {b : Auction} → Sound b → SoundBut (λ h. _≡_ {A = Bool} false true) b
+nobody-waits {b} s = waits-as (λ h l. (λ v. absurd v, λ e. clash false e refl)) (sound-is-settled b .0 s)
+
 pub arrival-ready : {b : Auction} {row : List ℕ} → Sound b → b .market .arrived < maxBidders → RowFits (b .market .items) row → Ready (entered b row) (b .market .arrived)
 unfolding entered
-arrival-ready {b} s room r = record { bidder = omega arith; sound = arrival-sound (sound-is-settled b .0 s) room r }
+arrival-ready {b} s room r = record { bidder = omega arith; others = λ h. false; new = refl; sound = arrival-sound (nobody-waits s) room r }
 
 -- ---- A withdrawal
 pub live-released : (b : Auction) (k : ℕ) → k < length (b .market .withdrawn) → live (released b k) ≡ (λ i. upd k 0 (live b i))
@@ -147,18 +152,17 @@ withdrawal-sound {waits} {b} s {k} {x} lk h =
     (live-released b k (omega (arith, f .formed .flags, f .items))) (matching-released f lk h) (scaled-clear (b .state .price) k) (gain-displaced (released b k) x)
     (leaves (settled-for s) h _ (λ i l. waits-or (waits i) i x))
 
-pub withdrawal-ready : {b : Auction} {k x : ℕ} → Sound b → k < b .market .items → holderOf (holderAt b k) ≡ Held x → Ready (displaced (released b k) x) x
-unfolding released displaced
-withdrawal-ready {b} {k} {x} s lk e =
-    let r = sound-is-settled b .0 s in
-    let c = cell-held _ x e in
-    record { bidder = r .holders k x lk c .0; sound = withdrawal-sound r lk (holds (framed r .names) lk c) }
-
-pub withdrawal-free : {b : Auction} {k : ℕ} → Sound b → k < b .market .items → holderOf (holderAt b k) ≡ Free → Sound (released b k)
-unfolding released
-withdrawal-free {b} {k} s lk e =
-    let r = sound-is-settled b .0 s in
-    let x : ℕ = length (b .state .gain) in
-    let out : b .market .arrived ≤ x = omega (arith, r .formed .gains, r .arrived) in
-    sound-is-settled (released b k) .1 (waits-as (λ h l. (⊎-elim (λ v. v) (λ (q : h ≡ x). absurd (omega arith)), inl))
-    (rw (displaced-none (released b k) x (le-refl x)) at (withdrawal-sound r lk (unheld (framed r .names) (cell-free _ e) out))))
+-- Whoever held an item that leaves waits, and nobody more where nobody did
+pub vacated-sound : {waits : ℕ → Type 0} {b : Auction} → SoundBut waits b → {k : ℕ} → k < b .market .items → SoundBut (λ h. waits h ⊎ (holderAt b k ≡ suc h)) (vacated b k)
+unfolding vacated displacedIf released
+vacated-sound {waits} {b} s {k} lk = go (holderAt b k) refl
+  where
+    go : (c : ℕ) → holderAt b k ≡ c → SoundBut (λ h. waits h ⊎ (holderAt b k ≡ suc h)) (displacedIf (released b k) (holderOf c))
+    go zero e =
+        let x : ℕ = length (b .state .gain) in
+        let out : b .market .arrived ≤ x = omega (arith, s .formed .gains, s .arrived) in
+        waits-as (λ h l. (⊎-elim inl (λ (q : h ≡ x). absurd (omega arith)), ⊎-elim inl (λ q. absurd (omega (arith, e, q)))))
+        (rw (displaced-none (released b k) x (le-refl x)) at (withdrawal-sound s lk (unheld (framed s .names) e out)))
+    go (suc x) e =
+        waits-as (λ h l. (⊎-map (λ v. v) (λ (q : h ≡ x). e ∙ ap suc (sym q)), ⊎-map (λ v. v) (λ q. suc-inj (sym q ∙ e))))
+        (withdrawal-sound s lk (holds (framed s .names) lk e))

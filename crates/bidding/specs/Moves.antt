@@ -1,4 +1,4 @@
--- What begins a chain of bids: a new bidder's row, or an item that is released.
+-- What begins a chain of bids: a new bidder's row, or an item that is released. Withdrawals has what a withdrawal of a list is.
 use mathlib.Core.List.{List}
 use Prim.Native.Nat.{ℕ, _+_, _*_}
 use lib.ListN.{set}
@@ -28,6 +28,7 @@ released b k =
     (b .weights)
     (record { price = set (b .state .price) k (scaled 0); holder = set (b .state .holder) k 0; gain = b .state .gain })
 
--- "Its holder, if any, is unplaced, gain 0, and bids"
-unfoldable pub withdrawnOf : Auction → ℕ → Outcome AfterChain
-withdrawnOf b k = handOver (settleOf (fuelOf (released b k))) (released b k) 0 (holderOf (holderAt b k))
+-- The withdrawal of one item, as it was before lists of them: "Its holder, if any, is unplaced, gain 0, and bids". Nothing is computed by it any more;
+-- a list of one is compared with it (WithdrawalLaws: ListOfOne)
+unfoldable pub withdrawnOneOf : Auction → ℕ → Outcome AfterChain
+withdrawnOneOf b k = handOver (settleOf (fuelOf (released b k))) (released b k) 0 (holderOf (holderAt b k))

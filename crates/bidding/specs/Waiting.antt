@@ -1,6 +1,6 @@
 -- Between two bids: a board that is sound but for the bidders that are still to bid.
 use mathlib.Core.Path.{_≡_}
-use mathlib.Core.Bool.{true}
+use mathlib.Core.Bool.{Bool, true, false}
 use mathlib.Core.Logic.{_⊎_}
 use mathlib.Core.List.{List}
 use lib.ListN.{getD, length}
@@ -36,10 +36,12 @@ pub record SoundBut (waits : ℕ → Type 0) (b : Auction) : Type 0 where
 abbrev pub Nobody : ℕ → Type 0
 Nobody h = ⊥
 
--- One bidder is to bid
+-- One bidder is to bid, and others, of which it is none, wait until its chain has ended
 pub record Ready (b : Auction) (i : ℕ) : Type 0 where
   pub bidder : i < b .market .arrived
-  pub sound : SoundBut (λ h. Nobody h ⊎ (h ≡ i)) b
+  pub others : ℕ → Bool
+  pub new : others i ≡ false
+  pub sound : SoundBut (λ h. (others h ≡ true) ⊎ (h ≡ i)) b
 
 -- A bid of bidder i + 1 for item k + 1 that keeps the board sound: the edge is open, the new gain g and the new price y add up to (q + p) × w,
 -- the price rises by p × w or more, and every other open edge of the bidder has a utility of at most g. The rule's bid is one.

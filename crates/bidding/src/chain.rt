@@ -1,4 +1,4 @@
-// The chain of bids that a bidder begins.
+// The chain of bids that a bidder begins, and the chains of several, one after the other.
 use crate::rule::BestEdge;
 use crate::rule::best_open;
 use board::record::Auction;
@@ -8,9 +8,11 @@ use board::record::State;
 use board::record::holder_of;
 use board::units::Scaled;
 ghost use mathlib.Core.Path.{_≡_};
-ghost use Rattle.board.specs.Cells.{auction};
+ghost use mathlib.Core.Bool.{true};
+ghost use Rattle.board.specs.Cells.{auction, flagAt};
 ghost use Rattle.bidding.specs.Rule.{afterChain, settleOf, fuelOf, done};
-ghost use Rattle.bidding.specs.Waiting.{Ready};
+ghost use Rattle.bidding.specs.Waiting.{SoundBut, Ready};
+ghost use Rattle.bidding.specs.Withdrawals.{rollOf, chainsFrom};
 
 // The state after a chain of bids, and how many the bids were.
 pub struct ChainEnd {
@@ -63,4 +65,30 @@ pub fn settle(
         state.gain[displaced] = Scaled(0);
         next = displaced;
     }
+}
+
+// The chains of the marked bidders, in rising number, each run to its end before the next.
+pub(crate) fn settle_all(
+    market: Market,
+    weights: &[u32; Auction::MAX_CELLS],
+    mut state: State,
+    waiting: [u8; Auction::MAX_BIDDERS],
+) -> ChainEnd
+    requires { ⌜ SoundBut (λ h. flagAt waiting h ≡ true) (auction market (now weights) state) ⌝ }
+    ensures { λ r. ⌜ done (afterChain (auction market (now (weights .entry)) (r .state)) (r .bids)) ≡
+        chainsFrom (done (afterChain (auction market (now (weights .entry)) state) 0)) (rollOf (flagAt waiting) (market .arrived)) ⌝ }
+{
+    let bidders = market.arrived as usize;
+    let mut bids: u64 = 0;
+    let mut i: usize = 0;
+    while i < bidders {
+        if waiting[i] != 0 {
+            let end = settle(market, weights, state, i);
+            let after = end.state;
+            state = after;
+            bids += end.bids;
+        }
+        i += 1;
+    }
+    ChainEnd { state, bids }
 }

@@ -1,22 +1,26 @@
-// What begins a chain of bids: a new bidder's row, or an item that is released.
+// What begins chains of bids: a new bidder's row, or items that are released.
 use crate::chain::settle;
+use crate::chain::settle_all;
 use board::record::Auction;
-use board::record::Holder;
 use board::record::Market;
 use board::record::State;
-use board::record::holder_of;
 use board::units::Scaled;
 ghost use mathlib.Core.Path.{_≡_};
-ghost use Prim.Native.Nat.{_+_, _*_, _≤_, _<_};
+ghost use mathlib.Core.List.{List};
+ghost use Prim.Native.Nat.{ℕ, _+_, _*_, _≤_, _<_};
+ghost use lib.ListN.{length};
 ghost use lib.Seq.{sets};
+ghost use Rattle.duality.specs.Lists.{cells};
 ghost use Rattle.board.specs.Limits.{maxItems, maxBidders};
 ghost use Rattle.board.specs.Cells.{auction};
 ghost use Rattle.board.specs.Sound.{Sound};
 ghost use Rattle.bidding.specs.Rule.{done, afterChain};
-ghost use Rattle.bidding.specs.Moves.{arrivedOf, withdrawnOf};
+ghost use Rattle.bidding.specs.Moves.{arrivedOf};
+ghost use Rattle.bidding.specs.Withdrawals.{Vacates, withdrawnOf};
+ghost use Rattle.bidding.specs.WithdrawalLaws.{Listed};
 ghost use Rattle.bidding.specs.Waiting.{RowFits};
 
-// Market and state after a move and its chain of bids, and how many the bids were.
+// Market and state after a move and its chains of bids, and how many the bids were.
 pub struct Moved {
     pub market: Market,
     pub state: State,
@@ -57,33 +61,61 @@ pub fn enter(
     }
 }
 
-// The item leaves the live edges, and whoever held it bids.
-pub fn release(
-    mut market: Market,
-    weights: &[u32; Auction::MAX_CELLS],
-    mut state: State,
-    item: usize,
-) -> Moved
-    requires { ⌜ Sound (auction market (now weights) state) × (item < market .items) ⌝ }
-    ensures { λ r. ⌜ done (afterChain (auction (r .market) (now (weights .entry)) (r .state)) (r .bids)) ≡ withdrawnOf (auction market (now (weights .entry)) state) item ⌝ }
+// Market and state after items have left, and a mark for each bidder that held one.
+struct Vacated {
+    market: Market,
+    state: State,
+    waiting: [u8; Auction::MAX_BIDDERS],
+}
+
+// "All go first": the items leave the live edges, and whoever held one is unplaced and marked. Nobody bids.
+fn vacate(mut market: Market, mut state: State, items: &[u64]) -> Vacated
+    requires { ⌜ ((w : List ℕ) × Sound (auction market w state) × Listed (auction market w state) (cells (now items)) (length (now items))) ⌝ }
+    ensures { λ r. ⌜ ((w : List ℕ) → Sound (auction market w state) →
+        Vacates (auction market w state) (cells (now (items .entry))) (length (now (items .entry))) (auction (r .market) w (r .state)) (r .waiting)) ⌝ }
 {
-    let holder = holder_of(state.holder[item]);
-    state.price[item] = Scaled(0);
-    state.holder[item] = 0;
-    market.withdrawn[item] = 1;
-    let Holder::Held(bidder) = holder else {
-        return Moved {
-            market,
-            state,
-            bids: 0,
-        };
-    };
-    state.gain[bidder] = Scaled(0);
-    let end = settle(market, weights, state, bidder);
-    let after = end.state;
-    Moved {
+    let mut waiting = [0u8; Auction::MAX_BIDDERS];
+    let mut i: usize = 0;
+    while i < items.len() {
+        let k = (items[i] - 1) as usize;
+        let held = state.holder[k];
+        state.price[k] = Scaled(0);
+        state.holder[k] = 0;
+        market.withdrawn[k] = 1;
+        if held != 0 {
+            let bidder = held as usize - 1;
+            state.gain[bidder] = Scaled(0);
+            waiting[bidder] = 1;
+        }
+        i += 1;
+    }
+    Vacated {
         market,
-        state: after,
+        state,
+        waiting,
+    }
+}
+
+// All items of a list leave, and then those who held one bid, in rising number.
+pub fn release(
+    market: Market,
+    weights: &[u32; Auction::MAX_CELLS],
+    state: State,
+    items: &[u64],
+) -> Moved
+    requires { ⌜ Sound (auction market (now weights) state) × Listed (auction market (now weights) state) (cells (now items)) (length (now items)) ⌝ }
+    ensures { λ r. ⌜ done (afterChain (auction (r .market) (now (weights .entry)) (r .state)) (r .bids)) ≡
+        withdrawnOf (auction market (now (weights .entry)) state) (cells (now (items .entry))) (length (now (items .entry))) ⌝ }
+{
+    let left = vacate(market, state, items);
+    let after = left.market;
+    let unheld = left.state;
+    let waiting = left.waiting;
+    let end = settle_all(after, weights, unheld, waiting);
+    let settled = end.state;
+    Moved {
+        market: after,
+        state: settled,
         bids: end.bids,
     }
 }

@@ -20,7 +20,7 @@ maxQ = 1000
 abbrev pub maxPrice : ℕ
 maxPrice = 1000000000
 
--- One edge more than there are items: so many decide every refusal of an arrival
+-- One edge, or named item, more than there are items: so many decide every refusal of an arrival or a withdrawal
 abbrev pub maxEdges : ℕ
 maxEdges = suc maxItems
 

@@ -28,7 +28,7 @@ full-answers =
     record {
       at-most = λ edges. record { answer = Arrived.Refused Refusal.Full; outcome = arrive-full (full 3) edges full-sound (omega arith); tells = refl };
       arrives = λ edges. record { answer = Arrived.Refused Refusal.Spoilt; outcome = arrive-spoilt (full 4) edges full-unsound; tells = refl };
-      withdraws = λ item. record { answer = Withdrawn.Refused Refusal.Spoilt; outcome = withdraw-spoilt (full 4) item full-unsound; tells = refl };
+      withdraws = λ items. record { answer = Withdrawn.Refused Refusal.Spoilt; outcome = withdraw-spoilt (full 4) items full-unsound; tells = refl };
       reads = λ l. let e = read-out-by (full 4) l {r = Refusal.Spoilt} (rw full-unsound) in record { lists = rw e; tells = rw e };
       checks = λ l p q. sym (ap checkedTold (check-spoilt (full 4) l p q full-unsound));
     }

@@ -37,7 +37,7 @@ roomCheck b l = checkFor Refusal.Short (not (roomTest (b .market .arrived) (b .m
 unfoldable pub skipAll : List Call → Auction → List ℕ → Seen
 skipAll [] b bids = seen b bids
 skipAll (arrive edges ∷ rest) b bids = afterArrive (skipAll rest) bids (arriveBy b edges (firstOf (arriveRest b edges)))
-skipAll (withdraw item ∷ rest) b bids = afterWithdraw (skipAll rest) bids (withdrawBy b item (firstOf (withdrawRest b item)))
+skipAll (withdraw items ∷ rest) b bids = afterWithdraw (skipAll rest) bids (withdrawBy b items (firstOf (withdrawRest b items)))
 skipAll (check l p q ∷ rest) b bids = afterCheck (checkBy b l (firstOf (checkRest b l p q)))
 skipAll (readOut l ∷ rest) b bids = afterReadOut (readOutBy b l (firstOf (roomCheck b l)) .lists) (readOutBy b l (firstOf (roomCheck b l)) .answer)
 
@@ -45,9 +45,9 @@ pub arrive-skips : (b : Auction) (edges : List Edge) → Sound b → arriveOf b 
 unfolding arriveOf firstOf
 arrive-skips b edges s = let e = sound-decides b .complete s in rw e
 
-pub withdraw-skips : (b : Auction) (item : ℕ) → Sound b → withdrawOf b item ≡ withdrawBy b item (firstOf (withdrawRest b item))
+pub withdraw-skips : (b : Auction) (items : List ℕ) → Sound b → withdrawOf b items ≡ withdrawBy b items (firstOf (withdrawRest b items))
 unfolding withdrawOf firstOf
-withdraw-skips b item s = let e = sound-decides b .complete s in rw e
+withdraw-skips b items s = let e = sound-decides b .complete s in rw e
 
 check-skips : (b : Auction) (l : Lists) (p q : ℕ) → Sound b → checkOf b l p q ≡ checkBy b l (firstOf (checkRest b l p q))
 unfolding checkOf firstOf
@@ -70,16 +70,16 @@ module _ (rest : List Call) (ih : (b : Auction) (bids : List ℕ) → Sound b �
           ih (a .auction) (n ∷ bids) (arrive-demand-2 b (a .auction) edges n (record { answer = Arrived.Bids n; outcome = f; tells = refl }) .after)
       go (Arrived.Refused r) h = refl
 
-  after-withdraw : (b : Auction) (item : ℕ) (bids : List ℕ) (o : Outcome Withdrawal) → withdrawOf b item ≡ o →
+  after-withdraw : (b : Auction) (items : List ℕ) (bids : List ℕ) (o : Outcome Withdrawal) → withdrawOf b items ≡ o →
       afterWithdraw (playAll rest) bids o ≡ afterWithdraw (skipAll rest) bids o
   unfolding afterWithdraw withdrew
-  after-withdraw b item bids spent e = refl
-  after-withdraw b item bids (done a) e = go (a .answer) refl
+  after-withdraw b items bids spent e = refl
+  after-withdraw b items bids (done a) e = go (a .answer) refl
     where
       go : (x : Withdrawn) → a .answer ≡ x → withdrew (playAll rest) bids (a .auction) x ≡ withdrew (skipAll rest) bids (a .auction) x
       go (Withdrawn.Bids n) h =
-          let f : withdrawOf b item ≡ done (record { auction = a .auction; answer = Withdrawn.Bids n }) = rw (← h) e in
-          ih (a .auction) (n ∷ bids) (withdraw-demand-2 b (a .auction) item n (record { answer = Withdrawn.Bids n; outcome = f; tells = refl }) .after)
+          let f : withdrawOf b items ≡ done (record { auction = a .auction; answer = Withdrawn.Bids n }) = rw (← h) e in
+          ih (a .auction) (n ∷ bids) (withdraw-demand-2 b (a .auction) items n (record { answer = Withdrawn.Bids n; outcome = f; tells = refl }) .after)
       go (Withdrawn.Refused r) h = refl
 
 all-skip : (calls : List Call) (b : Auction) (bids : List ℕ) → Sound b → playAll calls b bids ≡ skipAll calls b bids
@@ -87,8 +87,8 @@ unfolding playAll skipAll
 all-skip [] b bids s = refl
 all-skip (arrive edges ∷ rest) b bids s =
     after-arrive rest (all-skip rest) b edges bids _ refl ∙ ap (afterArrive (skipAll rest) bids) (arrive-skips b edges s)
-all-skip (withdraw item ∷ rest) b bids s =
-    after-withdraw rest (all-skip rest) b item bids _ refl ∙ ap (afterWithdraw (skipAll rest) bids) (withdraw-skips b item s)
+all-skip (withdraw items ∷ rest) b bids s =
+    after-withdraw rest (all-skip rest) b items bids _ refl ∙ ap (afterWithdraw (skipAll rest) bids) (withdraw-skips b items s)
 all-skip (check l p q ∷ rest) b bids s = ap afterCheck (check-skips b l p q s)
 all-skip (readOut l ∷ rest) b bids s = ap (λ (o : ReadOutcome). afterReadOut (o .lists) (o .answer)) (read-out-skips b l s)
 

@@ -6,10 +6,13 @@ use Rattle.bidding.specs.Potential.{edgeCount}
 use Rattle.bidding.specs.Rule.{offerOf, bestOf, placedAt, displaced, handOver, bidOf, settleOf}
 use Rattle.refusals.specs.Demand1.{firstOf}
 use Rattle.board.specs.Ranges.{withinTest, slackTest}
-use Rattle.auction.specs.Edges.{orderTest, edgeChecks, edgesChecks, rowTo}
+use Rattle.refusals.specs.Each.{eachChecks}
+use Rattle.auction.specs.Edges.{orderTest, edgeChecks, rowTo}
+use Rattle.auction.specs.Items.{itemChecks}
 use Rattle.board.specs.Opening.{opened, openBy, openOf}
 use Rattle.auction.specs.Arrive.{arriveRest, arrivalOf, arriveBy}
-use Rattle.bidding.specs.Moves.{entered, arrivedOf, released, withdrawnOf}
+use Rattle.bidding.specs.Moves.{entered, arrivedOf, released}
+use Rattle.bidding.specs.Withdrawals.{displacedIf, vacated, vacatedTo, namedIn, rollOf, moreBids, nextChain, chainsFrom, withdrawnOf}
 use Rattle.auction.specs.Withdraw.{withdrawRest, withdrawalOf, withdrawBy}
 use Rattle.duality.specs.Decide.{allBelow}
 use Rattle.duality.specs.Tests.{freshTest, cellTest}
@@ -29,16 +32,18 @@ computed : map (λ r. skip (r .case)) table ≡ map (λ r. r .seen) table
 unfolding
     table skip checkRest afterCheck listChecks clashChecks priceTest priceChecks gainChecks coveredTest bareChecks evenTest checkBy freshTest cellTest allBelow
     skipOpening skipAll afterArrive afterWithdraw played withdrew heldBy edgeCount
-    offerOf bestOf placedAt displaced handOver bidOf settleOf firstOf withinTest orderTest edgeChecks edgesChecks rowTo
-    opened slackTest openBy openOf arriveRest entered arrivalOf arrivedOf arriveBy withdrawRest released withdrawalOf withdrawnOf withdrawBy
+    offerOf bestOf placedAt displaced handOver bidOf settleOf firstOf withinTest orderTest edgeChecks itemChecks eachChecks rowTo
+    opened slackTest openBy openOf arriveRest entered arrivalOf arrivedOf arriveBy withdrawRest released withdrawalOf withdrawBy
+    displacedIf vacated vacatedTo namedIn rollOf moreBids nextChain chainsFrom withdrawnOf
 computed = refl
 
 pub computed-refusals : map (λ r. skip (r .case)) refusals ≡ map (λ r. r .seen) refusals
 unfolding
     refusals skip checkRest afterCheck listChecks clashChecks priceTest priceChecks gainChecks coveredTest bareChecks evenTest checkBy freshTest cellTest allBelow
     skipOpening skipAll afterArrive afterWithdraw afterReadOut played withdrew heldBy edgeCount roomTest readOutBy
-    offerOf bestOf placedAt displaced handOver bidOf settleOf firstOf withinTest orderTest edgeChecks edgesChecks rowTo
-    opened slackTest openBy openOf arriveRest entered arrivalOf arrivedOf arriveBy withdrawRest released withdrawalOf withdrawnOf withdrawBy
+    offerOf bestOf placedAt displaced handOver bidOf settleOf firstOf withinTest orderTest edgeChecks itemChecks eachChecks rowTo
+    opened slackTest openBy openOf arriveRest entered arrivalOf arrivedOf arriveBy withdrawRest released withdrawalOf withdrawBy
+    displacedIf vacated vacatedTo namedIn rollOf moreBids nextChain chainsFrom withdrawnOf
 computed-refusals = refl
 
 pub cases : Cases

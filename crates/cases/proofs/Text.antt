@@ -20,10 +20,13 @@ use Rattle.board.specs.Live.{heldBy}
 use Rattle.bidding.specs.Potential.{edgeCount}
 use Rattle.bidding.specs.Rule.{Outcome, done, spent, offerOf, bestOf, placedAt, displaced, handOver, bidOf, settleOf}
 use Rattle.board.specs.Ranges.{withinTest, slackTest}
-use Rattle.auction.specs.Edges.{orderTest, edgeChecks, edgesChecks, rowTo}
+use Rattle.refusals.specs.Each.{eachChecks}
+use Rattle.auction.specs.Edges.{orderTest, edgeChecks, rowTo}
+use Rattle.auction.specs.Items.{itemChecks}
 use Rattle.refusals.specs.Demand1.{firstOf}
 use Rattle.board.specs.Opening.{opened, openBy, openOf}
-use Rattle.bidding.specs.Moves.{entered, arrivedOf, released, withdrawnOf}
+use Rattle.bidding.specs.Moves.{entered, arrivedOf, released}
+use Rattle.bidding.specs.Withdrawals.{displacedIf, vacated, vacatedTo, namedIn, rollOf, moreBids, nextChain, chainsFrom, withdrawnOf}
 use Rattle.auction.specs.Arrive.{arrivalOf, arriveRest, arriveBy, arriveOf}
 use Rattle.auction.specs.Withdraw.{withdrawRest, withdrawalOf, withdrawBy, withdrawOf}
 use Rattle.replay.specs.Replay.{pairsOf, Command, opens, arrives, withdraws, malformed, commandOf, finished}
@@ -35,7 +38,7 @@ use Rattle.layout.specs.Page.{padded, heading, rowLine, breaks}
 use Rattle.page.specs.Rows.{boardPage}
 use Rattle.history.specs.Wall.{wallBy, wallFrom, wallOf}
 use Rattle.cases.specs.Pages.{head, line1, line2, line2Unplaced}
-use Rattle.cases.specs.Text.{text1, printed1, text2, printed2, textTied, printedTied, firstLine1, texts, Texts, Starred}
+use Rattle.cases.specs.Text.{text1, printed1, text2, printed2, textTied, printedTied, printedBare, firstLine1, texts, Texts, Starred}
 use Rattle.cases.proofs.Skips.{arrive-skips, withdraw-skips, ready-sound}
 use Rattle.cases.proofs.Table.{cases}
 use Rattle.cases.proofs.Ties.{ties}
@@ -44,7 +47,7 @@ use Rattle.cases.proofs.Ties.{ties}
 unfoldable skipOut : (Auction → ℕ → Outcome Replayed) → ℕ → Auction → ℕ → Command → Outcome Replayed
 skipOut next n b bids (opens k p q) = carryOut next n b bids (opens k p q)
 skipOut next n b bids (arrives edges) = afterArrival next n bids (arriveBy b edges (firstOf (arriveRest b edges)))
-skipOut next n b bids (withdraws item) = afterWithdrawal next n bids (withdrawBy b item (firstOf (withdrawRest b item)))
+skipOut next n b bids (withdraws items) = afterWithdrawal next n bids (withdrawBy b items (firstOf (withdrawRest b items)))
 skipOut next n b bids malformed = carryOut next n b bids malformed
 
 unfoldable skipLines : ℕ → List ℕ → ℕ → ℕ → Auction → ℕ → Outcome Replayed
@@ -66,22 +69,22 @@ module _ (next skip : Auction → ℕ → Outcome Replayed) (ih : (b : Auction) 
           ih (a .auction) (bids + k) (arrive-demand-2 b (a .auction) edges k (record { answer = Arrived.Bids k; outcome = f; tells = refl }) .after)
       go (Arrived.Refused r) h = refl
 
-  withdrawals : (n : ℕ) (b : Auction) (bids item : ℕ) (o : Outcome Withdrawal) → withdrawOf b item ≡ o → afterWithdrawal next n bids o ≡ afterWithdrawal skip n bids o
+  withdrawals : (n : ℕ) (b : Auction) (bids : ℕ) (items : List ℕ) (o : Outcome Withdrawal) → withdrawOf b items ≡ o → afterWithdrawal next n bids o ≡ afterWithdrawal skip n bids o
   unfolding afterWithdrawal afterWithdrawn
-  withdrawals n b bids item spent e = refl
-  withdrawals n b bids item (done a) e = go (a .answer) refl
+  withdrawals n b bids items spent e = refl
+  withdrawals n b bids items (done a) e = go (a .answer) refl
     where
       go : (x : Withdrawn) → a .answer ≡ x → afterWithdrawn next n (a .auction) bids x ≡ afterWithdrawn skip n (a .auction) bids x
       go (Withdrawn.Bids k) h =
-          let f : withdrawOf b item ≡ done (record { auction = a .auction; answer = Withdrawn.Bids k }) = rw (← h) e in
-          ih (a .auction) (bids + k) (withdraw-demand-2 b (a .auction) item k (record { answer = Withdrawn.Bids k; outcome = f; tells = refl }) .after)
+          let f : withdrawOf b items ≡ done (record { auction = a .auction; answer = Withdrawn.Bids k }) = rw (← h) e in
+          ih (a .auction) (bids + k) (withdraw-demand-2 b (a .auction) items k (record { answer = Withdrawn.Bids k; outcome = f; tells = refl }) .after)
       go (Withdrawn.Refused r) h = refl
 
   line-skips : (n : ℕ) (b : Auction) (bids : ℕ) → Sound b → (x : Command) → carryOut next n b bids x ≡ skipOut skip n b bids x
   unfolding carryOut skipOut
   line-skips n b bids s (opens k p q) = refl
   line-skips n b bids s (arrives edges) = arrivals n b bids edges _ refl ∙ ap (afterArrival skip n bids) (arrive-skips b edges s)
-  line-skips n b bids s (withdraws item) = withdrawals n b bids item _ refl ∙ ap (afterWithdrawal skip n bids) (withdraw-skips b item s)
+  line-skips n b bids s (withdraws items) = withdrawals n b bids items _ refl ∙ ap (afterWithdrawal skip n bids) (withdraw-skips b items s)
   line-skips n b bids s malformed = refl
 
 lines-skip : (fuel : ℕ) (s : List ℕ) (at n : ℕ) (b : Auction) (bids : ℕ) → Sound b → linesFrom fuel s at n b bids ≡ skipLines fuel s at n b bids
@@ -123,26 +126,31 @@ opens-page s out e f = ap wallFrom (opens-skip s e) ∙ f
 
 -- The texts of the table that open such a board, in its order
 all-open : Opens text1 × Opens text2 × Opens textTied × Opens (firstLine1 ++ (65 ∷ 9 ∷ 51 ∷ 9 ∷ 53 ∷ 10 ∷ [])) × Opens (firstLine1 ++ ((87 ∷ 9 ∷ 49 ∷ 10 ∷ []) ++ (87 ∷ 9 ∷ 49 ∷ 10 ∷ []))) ×
+    Opens (text1 ++ (87 ∷ 9 ∷ 49 ∷ 9 ∷ 50 ∷ 10 ∷ [])) × Opens (firstLine1 ++ (87 ∷ 10 ∷ [])) ×
     Opens (firstLine1 ++ (87 ∷ 9 ∷ 49 ∷ [])) × Opens (firstLine1 ++ (65 ∷ 9 ∷ 51 ∷ 10 ∷ []))
 unfolding replayOf firstLine afterOpened commandOf lineAt fieldsAt fieldAt openOf openBy slackTest withinTest firstOf
-all-open = (refl, refl, refl, refl, refl, refl, refl)
+all-open = (refl, refl, refl, refl, refl, refl, refl, refl, refl)
 
 all-print : Prints text1 printed1 × Prints text2 printed2 × Prints textTied printedTied ×
     Prints (firstLine1 ++ (65 ∷ 9 ∷ 51 ∷ 9 ∷ 53 ∷ 10 ∷ [])) (82 ∷ 9 ∷ 52 ∷ 9 ∷ 50 ∷ 10 ∷ []) ×
     Prints (firstLine1 ++ ((87 ∷ 9 ∷ 49 ∷ 10 ∷ []) ++ (87 ∷ 9 ∷ 49 ∷ 10 ∷ []))) (82 ∷ 9 ∷ 53 ∷ 9 ∷ 51 ∷ 10 ∷ []) ×
+    Prints (text1 ++ (87 ∷ 9 ∷ 49 ∷ 9 ∷ 50 ∷ 10 ∷ [])) printedBare ×
+    Prints (firstLine1 ++ (87 ∷ 10 ∷ [])) (82 ∷ 9 ∷ 49 ∷ 52 ∷ 9 ∷ 50 ∷ 10 ∷ []) ×
     Prints (firstLine1 ++ (87 ∷ 9 ∷ 49 ∷ [])) (82 ∷ 9 ∷ 49 ∷ 52 ∷ 9 ∷ 50 ∷ 10 ∷ []) ×
     Prints (firstLine1 ++ (65 ∷ 9 ∷ 51 ∷ 10 ∷ [])) (82 ∷ 9 ∷ 49 ∷ 52 ∷ 9 ∷ 50 ∷ 10 ∷ [])
 unfolding
     skipLines skipOut lineAt fieldsAt fieldAt commandOf pairsOf afterArrival afterArrived afterWithdrawal afterWithdrawn printed printedBy outputOf bidderLines itemLines decimal
-    heldBy edgeCount offerOf bestOf placedAt displaced handOver bidOf settleOf firstOf withinTest orderTest edgeChecks edgesChecks rowTo carryOut
-    opened slackTest openBy openOf arriveRest entered arrivalOf arrivedOf arriveBy withdrawRest released withdrawalOf withdrawnOf withdrawBy
-all-print = (refl, refl, refl, refl, refl, refl, refl)
+    heldBy edgeCount offerOf bestOf placedAt displaced handOver bidOf settleOf firstOf withinTest orderTest edgeChecks itemChecks eachChecks rowTo carryOut
+    opened slackTest openBy openOf arriveRest entered arrivalOf arrivedOf arriveBy withdrawRest released withdrawalOf withdrawBy
+    displacedIf vacated vacatedTo namedIn rollOf moreBids nextChain chainsFrom withdrawnOf
+all-print = (refl, refl, refl, refl, refl, refl, refl, refl, refl)
 
 all-paper : PrintsPage text1 (head ++ (line1 ++ line2)) × PrintsPage text2 (head ++ (line1 ++ line2Unplaced))
 unfolding
     skipLines skipOut lineAt fieldsAt fieldAt commandOf pairsOf afterArrival afterArrived afterWithdrawal afterWithdrawn wallFrom wallBy boardPage decimal padded heading rowLine breaks
-    heldBy edgeCount offerOf bestOf placedAt displaced handOver bidOf settleOf firstOf withinTest orderTest edgeChecks edgesChecks rowTo carryOut
-    opened slackTest openBy openOf arriveRest entered arrivalOf arrivedOf arriveBy withdrawRest released withdrawalOf withdrawnOf withdrawBy
+    heldBy edgeCount offerOf bestOf placedAt displaced handOver bidOf settleOf firstOf withinTest orderTest edgeChecks itemChecks eachChecks rowTo carryOut
+    opened slackTest openBy openOf arriveRest entered arrivalOf arrivedOf arriveBy withdrawRest released withdrawalOf withdrawBy
+    displacedIf vacated vacatedTo namedIn rollOf moreBids nextChain chainsFrom withdrawnOf
 all-paper = (refl, refl)
 
 pub walls-print : (wallOf text1 ≡ head ++ (line1 ++ line2)) × (wallOf text2 ≡ head ++ (line1 ++ line2Unplaced))
@@ -170,7 +178,9 @@ texts-print =
     also (opens-so _ _ (all-open .4) (all-print .4)) (
     also (opens-so _ _ (all-open .5) (all-print .5)) (
     also (opens-so _ _ (all-open .6) (all-print .6)) (
-    also slack-refused (also empty-refused refl))))))))
+    also (opens-so _ _ (all-open .7) (all-print .7)) (
+    also (opens-so _ _ (all-open .8) (all-print .8)) (
+    also slack-refused (also empty-refused refl))))))))))
 
 pub starred : Starred
 starred = record { calls = cases; texts = texts-print; ties = ties }

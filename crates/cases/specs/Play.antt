@@ -26,7 +26,7 @@ use Rattle.certificate.specs.Check.{checkOf}
 -- A call after opening
 pub data Call : Type 0 where
   arrive : List Edge → Call
-  withdraw : ℕ → Call
+  withdraw : List ℕ → Call
   check : Lists → ℕ → ℕ → Call
   readOut : Lists → Call
 
@@ -92,7 +92,7 @@ afterReadOut l (ReadOut.Refused r) = refusal (codeOf r)
 unfoldable pub playAll : List Call → Auction → List ℕ → Seen
 playAll [] b bids = seen b bids
 playAll (arrive edges ∷ rest) b bids = afterArrive (playAll rest) bids (arriveOf b edges)
-playAll (withdraw item ∷ rest) b bids = afterWithdraw (playAll rest) bids (withdrawOf b item)
+playAll (withdraw items ∷ rest) b bids = afterWithdraw (playAll rest) bids (withdrawOf b items)
 playAll (check l p q ∷ rest) b bids = afterCheck (checkOf b l p q)
 playAll (readOut l ∷ rest) b bids = afterReadOut (readOutOf b l .lists) (readOutOf b l .answer)
 

@@ -42,17 +42,22 @@ refusals =
     (row (on 64 1 1001 []) (refused 2 0) ∷
     -- 4 "kettle not 1 to k", at its entry; it comes before 6
     (row (on 2 1 10 (one (arrive (edge 1 5 ∷ (edge 3 0 ∷ []))))) (refused 4 2) ∷
-    (row (on 2 1 10 (one (withdraw 3))) (refused 4 0) ∷
+    (row (on 2 1 10 (one (withdraw (3 ∷ [])))) (refused 4 1) ∷
     -- Where kettle 1 is withdrawn, kettle 0 is 4 and not 5
-    (row (on 2 1 10 (withdraw 1 ∷ one (arrive (edge 0 5 ∷ [])))) (refused 4 1) ∷
-    (row (on 2 1 10 (withdraw 1 ∷ one (withdraw 0))) (refused 4 0) ∷
+    (row (on 2 1 10 (withdraw (1 ∷ []) ∷ one (arrive (edge 0 5 ∷ [])))) (refused 4 1) ∷
+    (row (on 2 1 10 (withdraw (1 ∷ []) ∷ one (withdraw (0 ∷ [])))) (refused 4 1) ∷
     -- 5 "kettle withdrawn", at its entry; it comes before 6
-    (row (on 2 1 10 (withdraw 1 ∷ one (arrive (edge 1 0 ∷ [])))) (refused 5 1) ∷
+    (row (on 2 1 10 (withdraw (1 ∷ []) ∷ one (arrive (edge 1 0 ∷ [])))) (refused 5 1) ∷
     -- 6 "Worth 1,000,000 accepted; 0 or 1,000,001: 6"; it comes before 7
     (row (on 2 1 10 (one (arrive (edge 1 1000001 ∷ [])))) (refused 6 1) ∷
     (row (on 2 1 10 (one (arrive (edge 2 5 ∷ (edge 2 0 ∷ []))))) (refused 6 2) ∷
     -- 7 "kettle not above the entry before"; entry by entry, so before a later entry's 4
     (row (on 3 1 10 (one (arrive (edge 2 5 ∷ (edge 2 5 ∷ (edge 4 5 ∷ [])))))) (refused 7 2) ∷
+    -- R-3: "a live kettle named twice is 7", at its place in the list; "5 is read from the board handed in", and comes before 7
+    (row (on 3 1 10 (one (withdraw (1 ∷ (1 ∷ (4 ∷ [])))))) (refused 7 2) ∷
+    (row (on 2 1 10 (withdraw (1 ∷ []) ∷ one (withdraw (2 ∷ (1 ∷ []))))) (refused 5 2) ∷
+    -- So does 4
+    (row (on 2 1 10 (one (withdraw (2 ∷ (0 ∷ []))))) (refused 4 2) ∷
     -- 8 "a list to be written has too few cells"
     (row (on 2 1 10 (one (readOut (lists [] (0 ∷ []) [])))) (refused 8 0) ∷
     -- 9 "a list to be checked has another length"; 2 comes before it, and it before 10
@@ -65,7 +70,7 @@ refusals =
     (row (on 2 1 10 (after1 (lists (2 ∷ (1 ∷ [])) (0 ∷ (1000000001 ∷ [])) (0 ∷ (0 ∷ []))))) (refused 11 2) ∷
     (row (on 2 1 10 (after1 (lists (2 ∷ (1 ∷ [])) (0 ∷ (0 ∷ [])) (0 ∷ (1000000001 ∷ []))))) (refused 11 4) ∷
     -- 12 "a live entry not covered", at the batch
-    (row (on 2 1 10 (after1 (lists (2 ∷ (1 ∷ [])) (40 ∷ (0 ∷ [])) (60 ∷ (49 ∷ []))))) (refused 12 2) ∷ []))))))))))))))))))
+    (row (on 2 1 10 (after1 (lists (2 ∷ (1 ∷ [])) (40 ∷ (0 ∷ [])) (60 ∷ (49 ∷ []))))) (refused 12 2) ∷ [])))))))))))))))))))))
 
 -- Each is seen so
 abbrev pub Refusals : Type 0
@@ -80,7 +85,7 @@ told number place value = record { number = number; place = place; value = value
 pub record FullAnswers : Type 0 where
   pub at-most : (edges : List Edge) → ArriveAnswers (full 3) edges (full 3) (told 3 0 0)
   pub arrives : (edges : List Edge) → ArriveAnswers (full 4) edges (full 4) (told 13 0 0)
-  pub withdraws : (item : ℕ) → WithdrawAnswers (full 4) item (full 4) (told 13 0 0)
+  pub withdraws : (items : List ℕ) → WithdrawAnswers (full 4) items (full 4) (told 13 0 0)
   pub reads : (l : Lists) → ReadOutAnswers (full 4) l l (told 13 0 0)
   pub checks : (l : Lists) (p q : ℕ) → checkedTold (checkOf (full 4) l p q) ≡ record { number = 13; place = 0; weight = 0; total = 0 }
 
@@ -99,7 +104,7 @@ pub record Answers : Type 0 where
   pub arrived : arrivedTold (Arrived.Bids 7) ≡ told 0 0 7
   pub arrived-refused : arrivedTold (Arrived.Refused (Refusal.Unknown 2)) ≡ told 4 2 0
   pub withdrawn : withdrawnTold (Withdrawn.Bids 7) ≡ told 0 0 7
-  pub withdrawn-refused : withdrawnTold (Withdrawn.Refused (Refusal.Gone 0)) ≡ told 5 0 0
+  pub withdrawn-refused : withdrawnTold (Withdrawn.Refused (Refusal.Gone 1)) ≡ told 5 1 0
   pub read-out : readOutTold ReadOut.Written ≡ told 0 0 0
   pub ended : endingTold Ending.Finished 7 ≡ told 0 0 7
   pub stopped : endingTold (Ending.Stopped (Refusal.Unknown 1) 2) 7 ≡ told 4 2 7

@@ -1,6 +1,7 @@
--- The table of the starred cases: each case as document 01 gives it, and what is seen; with the worked example of document 02's R-1.
+-- The table of the starred cases: each case as document 01 gives it, and what is seen; with the worked example of document 02's R-1, and lists withdrawn as its R-3 has them.
 use mathlib.Core.Path.{_≡_}
 use mathlib.Core.List.{List, [], _∷_, map}
+use Prim.Native.Nat.{ℕ}
 use Rattle.board.specs.Cells.{edge}
 use Rattle.board.specs.Lent.{Lists, lists}
 use Rattle.cases.specs.Play.{Call, arrive, withdraw, check, Case, on, Seen, board, totals, refused, play}
@@ -17,6 +18,10 @@ after1 l = arrive (edge 1 100 ∷ (edge 2 60 ∷ [])) ∷ (arrive (edge 1 90 ∷
 abbrev pub tied : List Call
 tied = arrive (edge 2 100 ∷ []) ∷ (arrive (edge 1 50 ∷ (edge 2 60 ∷ [])) ∷ [])
 
+-- Two batches on kettles 2 and 1, with a kettle 3 that is worth 100 to batch 1 and w to batch 2, and a steam line that feeds kettles 1 and 2 fails (R-3)
+abbrev pub rivals : ℕ → List Call
+rivals w = arrive (edge 2 300 ∷ (edge 3 100 ∷ [])) ∷ (arrive (edge 1 301 ∷ (edge 3 w ∷ [])) ∷ (withdraw (1 ∷ (2 ∷ [])) ∷ []))
+
 pub record Row : Type 0 where
   pub case : Case
   pub seen : Seen
@@ -29,7 +34,7 @@ table =
     -- 1: batch 1 on kettle 2 at gain 600, batch 2 on kettle 1 at 420; prices 570 and 60; worth 150, sum 1650, greatest worth 150, 7 bids in all
     row (on 2 1 10 case1) (board (2 ∷ (1 ∷ [])) (600 ∷ (420 ∷ [])) (570 ∷ (60 ∷ [])) 150 1650 150 (6 ∷ (1 ∷ []))) ∷
     -- 2 "Then kettle 1 withdrawn: batch 2 unplaced, worth 60, sum 660, no bid"
-    (row (on 2 1 10 (arrive (edge 1 100 ∷ (edge 2 60 ∷ [])) ∷ (arrive (edge 1 90 ∷ []) ∷ (withdraw 1 ∷ []))))
+    (row (on 2 1 10 (arrive (edge 1 100 ∷ (edge 2 60 ∷ [])) ∷ (arrive (edge 1 90 ∷ []) ∷ (withdraw (1 ∷ []) ∷ []))))
     (board (2 ∷ (0 ∷ [])) (600 ∷ (0 ∷ [])) (0 ∷ (60 ∷ [])) 60 660 60 (0 ∷ (6 ∷ (1 ∷ [])))) ∷
     -- 3 "One kettle, 9/10; batches worth 100, then 500: the second stays out; sum 1900, greatest worth 500"
     (row (on 1 9 10 (arrive (edge 1 100 ∷ []) ∷ (arrive (edge 1 500 ∷ []) ∷ [])))
@@ -53,12 +58,20 @@ table =
     (row (on 2 1 10 (after1 (lists (2 ∷ (1 ∷ [])) (39 ∷ (0 ∷ [])) (60 ∷ (50 ∷ []))))) (refused 12 1) ∷
     -- 10 "Opening with 5/5: 2"
     (row (on 1 5 5 []) (refused 2 0) ∷
-    -- 14 "Kettle withdrawn twice: 5"
-    (row (on 2 1 10 (withdraw 1 ∷ (withdraw 1 ∷ []))) (refused 5 0) ∷
+    -- 14 "Kettle withdrawn twice: 5", and document 02, R-3: "their place counts kettles in the list, also in a list of one"
+    (row (on 2 1 10 (withdraw (1 ∷ []) ∷ (withdraw (1 ∷ []) ∷ []))) (refused 5 1) ∷
+    -- R-3 "All go first; then the displaced batches bid in number order": batch 1 is on kettle 2, batch 2 on kettle 1, and both go. At slack 1/2 whoever
+    -- bids first has kettle 3: batch 1, though its kettle stands later in the list
+    (row (on 3 1 2 (rivals 100)) (board (3 ∷ (0 ∷ [])) (200 ∷ (0 ∷ [])) (0 ∷ (0 ∷ (100 ∷ []))) 100 300 100 (1 ∷ (1 ∷ (1 ∷ [])))) ∷
+    -- "each chain run to its end": where kettle 3 is worth 300 to batch 2, that displaces batch 1, which bids again and stays out
+    (row (on 3 1 2 (rivals 300)) (board (0 ∷ (3 ∷ [])) (0 ∷ (500 ∷ [])) (0 ∷ (0 ∷ (400 ∷ []))) 300 900 300 (2 ∷ (1 ∷ (1 ∷ [])))) ∷
+    -- "an empty list changes nothing in a call": case 1, and an empty list
+    (row (on 2 1 10 (arrive (edge 1 100 ∷ (edge 2 60 ∷ [])) ∷ (arrive (edge 1 90 ∷ []) ∷ (withdraw [] ∷ []))))
+    (board (2 ∷ (1 ∷ [])) (600 ∷ (420 ∷ [])) (570 ∷ (60 ∷ [])) 150 1650 150 (0 ∷ (6 ∷ (1 ∷ [])))) ∷
     -- 15 "At slack 1/2, two kettles; batch 1 has 60 on kettle 1, batch 2 has 61 on kettle 1 and 30 on kettle 2, batch 3 has 121 on kettle 1: batch
     -- 2 ends on kettle 1, the others unplaced, two bids; sum 183, greatest worth 151"
     (row (on 2 1 2 (arrive (edge 1 60 ∷ []) ∷ (arrive (edge 1 61 ∷ (edge 2 30 ∷ [])) ∷ (arrive (edge 1 121 ∷ []) ∷ []))))
-    (board (0 ∷ (1 ∷ (0 ∷ []))) (0 ∷ (62 ∷ (0 ∷ []))) (121 ∷ (0 ∷ [])) 61 183 151 (0 ∷ (1 ∷ (1 ∷ [])))) ∷ []))))))))))))
+    (board (0 ∷ (1 ∷ (0 ∷ []))) (0 ∷ (62 ∷ (0 ∷ []))) (121 ∷ (0 ∷ [])) 61 183 151 (0 ∷ (1 ∷ (1 ∷ [])))) ∷ [])))))))))))))))
 
 -- Each case is seen as the table has it
 abbrev pub Cases : Type 0

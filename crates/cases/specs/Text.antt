@@ -48,6 +48,12 @@ printedTied =
     ((89 ∷ 9 ∷ 50 ∷ 9 ∷ 50 ∷ 54 ∷ 48 ∷ 10 ∷ []) ++
     ((84 ∷ 9 ∷ 49 ∷ 53 ∷ 48 ∷ 9 ∷ 49 ∷ 54 ∷ 53 ∷ 48 ∷ 9 ∷ 52 ∷ 10 ∷ []) ++ (69 ∷ 9 ∷ 49 ∷ 53 ∷ 48 ∷ 10 ∷ [])))))
 
+-- P, 1, 0, 0; P, 2, 0, 0; T, 0, 0, 7; E, 0
+abbrev pub printedBare : List ℕ
+printedBare =
+    (80 ∷ 9 ∷ 49 ∷ 9 ∷ 48 ∷ 9 ∷ 48 ∷ 10 ∷ []) ++
+    ((80 ∷ 9 ∷ 50 ∷ 9 ∷ 48 ∷ 9 ∷ 48 ∷ 10 ∷ []) ++ ((84 ∷ 9 ∷ 48 ∷ 9 ∷ 48 ∷ 9 ∷ 55 ∷ 10 ∷ []) ++ (69 ∷ 9 ∷ 48 ∷ 10 ∷ [])))
+
 -- K, 2, 1, 10: the first line of the texts below
 abbrev pub firstLine1 : List ℕ
 firstLine1 = 75 ∷ 9 ∷ 50 ∷ 9 ∷ 49 ∷ 9 ∷ 49 ∷ 48 ∷ 10 ∷ []
@@ -72,6 +78,10 @@ texts =
     (textRow (firstLine1 ++ (65 ∷ 9 ∷ 51 ∷ 9 ∷ 53 ∷ 10 ∷ [])) (82 ∷ 9 ∷ 52 ∷ 9 ∷ 50 ∷ 10 ∷ []) ∷
     -- 14 "Kettle withdrawn twice: 5": W, 1; W, 1: R, 5, 3
     (textRow (firstLine1 ++ ((87 ∷ 9 ∷ 49 ∷ 10 ∷ []) ++ (87 ∷ 9 ∷ 49 ∷ 10 ∷ []))) (82 ∷ 9 ∷ 53 ∷ 9 ∷ 51 ∷ 10 ∷ []) ∷
+    -- R-3 "`W` lines may carry several": the text above, and W, 1, 2; all go first, so there is no bid more: P, 1, 0, 0; P, 2, 0, 0; T, 0, 0, 7; E, 0
+    (textRow (text1 ++ (87 ∷ 9 ∷ 49 ∷ 9 ∷ 50 ∷ 10 ∷ [])) printedBare ∷
+    -- "an empty list .. is badly formed as a line": W alone: R, 14, 2
+    (textRow (firstLine1 ++ (87 ∷ 10 ∷ [])) (82 ∷ 9 ∷ 49 ∷ 52 ∷ 9 ∷ 50 ∷ 10 ∷ []) ∷
     -- "a last line without byte 10 is 14": W, 1 without it: R, 14, 2
     (textRow (firstLine1 ++ (87 ∷ 9 ∷ 49 ∷ [])) (82 ∷ 9 ∷ 49 ∷ 52 ∷ 9 ∷ 50 ∷ 10 ∷ []) ∷
     -- "A line's form (14) is tested before its meaning": A, 3 has a kettle that is unknown, and no worth: R, 14, 2
@@ -79,7 +89,7 @@ texts =
     -- 10 "Opening with 5/5: 2": K, 2, 5, 5: R, 2, 1
     (textRow (75 ∷ 9 ∷ 50 ∷ 9 ∷ 53 ∷ 9 ∷ 53 ∷ 10 ∷ []) (82 ∷ 9 ∷ 50 ∷ 9 ∷ 49 ∷ 10 ∷ []) ∷
     -- "an empty text is 14 at line 1"
-    (textRow [] (82 ∷ 9 ∷ 49 ∷ 52 ∷ 9 ∷ 49 ∷ 10 ∷ []) ∷ []))))))))
+    (textRow [] (82 ∷ 9 ∷ 49 ∷ 52 ∷ 9 ∷ 49 ∷ 10 ∷ []) ∷ []))))))))))
 
 -- Each text prints what the table has
 abbrev pub Texts : Type 0

@@ -13,10 +13,10 @@ use Rattle.refusals.specs.Demand1.{firstOf}
 use Rattle.board.specs.Lent.{Lists}
 use Rattle.board.proofs.Tests.{slack-decides}
 use Rattle.board.proofs.SoundLaw.{sound-decides}
-use Rattle.refusals.proofs.Verdicts.{first-on}
+use Rattle.refusals.proofs.Verdicts.{first-on, served-both}
 use Rattle.certificate.specs.Check.{Even, checkChecks, checkBy, checkOf, listChecks, checkRest}
 use Rattle.certificate.specs.Accepted.{Accepted, TotalsAccepted, AcceptedTotals}
-use Rattle.certificate.proofs.Places.{served-next, next-serves, served-both}
+use Rattle.certificate.proofs.Places.{served-next, next-serves}
 use Rattle.certificate.proofs.Served.{clash-served, price-served, gain-served, bare-served}
 use Rattle.certificate.proofs.Tests.{lists-even}
 use Rattle.certificate.proofs.Outcomes.{checked-totals, listsOf, by-totals}

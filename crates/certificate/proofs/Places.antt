@@ -1,7 +1,7 @@
 -- Checks of one kind, a place each: the first place at which the test fails decides.
-use mathlib.Core.Path.{_≡_, refl, sym, _∙_}
+use mathlib.Core.Path.{_≡_, refl, _∙_}
 use mathlib.Core.Bool.{Bool, true, false, not, cond}
-use mathlib.Core.List.{List, [], _∷_, _++_}
+use mathlib.Core.List.{List, [], _∷_}
 use mathlib.Core.Logic.{by-cases}
 use Prim.Native.Nat.{ℕ, zero, suc, _+_, _-_, _≤_, _<_}
 use native.Mathlib.Decide.{ℕ-discrete}
@@ -13,10 +13,9 @@ use Rattle.duality.specs.Tests.{cellTest}
 use Rattle.duality.proofs.Decide.{reword, true-decides, all-decides}
 use Rattle.refusals.specs.declared.Refusal.{Refusal}
 use Rattle.refusals.specs.declared.Refusal.the-variants.{Clash, Price, Bare}
-use Rattle.refusals.specs.declared.Verdict.{Verdict}
 use Rattle.refusals.specs.declared.Verdict.the-variants.{Served, Refused}
 use Rattle.refusals.specs.Demand1.{Check, checkFor, firstOf}
-use Rattle.refusals.proofs.Verdicts.{Decided, ends, next, first-on, first-stops}
+use Rattle.refusals.proofs.Verdicts.{Decided, ends, next}
 use Rattle.board.specs.Limits.{maxPrice}
 use Rattle.certificate.specs.Check.{clashChecks, priceTest, priceChecks, gainChecks, coveredTest, bareChecks}
 
@@ -107,7 +106,7 @@ module _ (refusal : ℕ → Refusal) (test : ℕ → Bool) where
   each-decided i zero d = ends
   each-decided i (suc n) d = next (d i (omega arith)) (each-decided (suc i) n (λ j l. d j (omega arith)))
 
--- A check, and those after it; two lists of checks, one after the other
+-- A check, and those after it
 pub served-next : (r : Refusal) (t : Bool) (rest : List Check) → firstOf (checkFor r (not t) ∷ rest) ≡ Served → (t ≡ true) × (firstOf rest ≡ Served)
 unfolding firstOf
 served-next r true rest e = (refl, e)
@@ -116,10 +115,3 @@ served-next r false rest e = let z : _≡_ {A = ℕ} 0 1 = cc in absurd (omega a
 pub next-serves : (r : Refusal) (t : Bool) (rest : List Check) → t ≡ true → firstOf rest ≡ Served → firstOf (checkFor r (not t) ∷ rest) ≡ Served
 unfolding firstOf
 next-serves r t rest e h = rw e h
-
-pub served-both : (xs ys : List Check) → firstOf (xs ++ ys) ≡ Served → (firstOf xs ≡ Served) × (firstOf ys ≡ Served)
-served-both xs ys e = go (firstOf xs) refl
-  where
-    go : (v : Verdict) → firstOf xs ≡ v → (firstOf xs ≡ Served) × (firstOf ys ≡ Served)
-    go Served q = (q, sym (first-on xs ys q) ∙ e)
-    go (Refused r) q = let s = first-stops xs ys r q in let z : _≡_ {A = ℕ} 0 1 = cc in absurd (omega arith)

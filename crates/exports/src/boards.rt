@@ -51,12 +51,12 @@ pub extern "C" fn noughtelm_arrive_buffer(board: Auction, buffer: EdgeBuffer) ->
     arrival_answer(arrival)
 }
 
-// An item is withdrawn. The value is the number of bids.
+// The items of a slice of any length are withdrawn. The value is the number of bids.
 #[no_mangle]
-pub extern "C" fn noughtelm_withdraw(board: Auction, item: u64) -> Answer
-    ensures { λ r. ⌜ done r ≡ answered withdrawalAnswer (withdrawOf board item) ⌝ }
+pub extern "C" fn noughtelm_withdraw(board: Auction, items: &[u64]) -> Answer
+    ensures { λ r. ⌜ done r ≡ answered withdrawalAnswer (withdrawOf board (now (items .entry))) ⌝ }
 {
-    let withdrawal = withdraw(board, item);
+    let withdrawal = withdraw(board, items);
     withdrawal_answer(withdrawal)
 }
 

@@ -4,10 +4,16 @@ use Rattle.refusals.proofs.Answers.{told-apart}
 use Rattle.board.proofs.SoundLaw.{sound-decides}
 use Rattle.bidding.proofs.Choices.{best-is-chosen, chosen-once, ties-by-weight}
 use Rattle.bidding.proofs.Chains.{chain-once}
+use Rattle.bidding.proofs.Rolls.{displaced-in-order, order-once}
+use Rattle.bidding.proofs.Vacating.{all-go}
+use Rattle.bidding.proofs.Withdrawing.{chains-once, withdrawn-is-chains, list-of-one}
 use Rattle.auction.proofs.Demand1.{open-demand-1, arrive-demand-1, withdraw-demand-1, read-out-demand-1, call-orders}
 use Rattle.auction.proofs.Demand2.{arrive-ends, withdraw-ends, arrive-demand-2, withdraw-demand-2, sound-demand-2}
 use Rattle.auction.proofs.ReadOuts.{read-out-demand-2}
 use Rattle.auction.proofs.Histories.{history-demand-2}
+use Rattle.auction.proofs.EnoughItems.{enough-items}
+use Rattle.auction.proofs.OneItem.{one-as-before, none-changed}
+use Rattle.replay.proofs.LinePairs.{line-items}
 use Rattle.replay.proofs.Saying.{line-said, says-once, line-malformed}
 use Rattle.replay.proofs.ReplayLaws.{replay-ends, texts-demand-1, lines-reached, replay-reached, refused-before}
 use Rattle.hungarian.proofs.Exacts.{best-on, exact-is-best, exact-keeps, exact-gives-demand-3, exact-demand-1}
@@ -21,7 +27,7 @@ use Rattle.page.proofs.WriteLaws.{write-demand-1}
 use Rattle.page.proofs.ReadLaws.{read-demand-1}
 use Rattle.page.proofs.Demand1.{page-orders}
 use Rattle.page.proofs.Laws.{writes-said, reads-said, reads-back}
-use Rattle.guarantees.specs.Guarantees.{TableFirst, QuickBids, EqualPairs, KitchenPage, Guarantees}
+use Rattle.guarantees.specs.Guarantees.{TableFirst, QuickBids, EqualPairs, KitchenPage, SteamLine, Guarantees}
 use Rattle.guarantees.proofs.Checks.{exact-accepted, equal-totals-best, read-out-accepted}
 
 demand-1 : TableFirst
@@ -100,5 +106,20 @@ kitchen-page =
       back = reads-back;
     }
 
+steam-line : SteamLine
+steam-line =
+    record {
+      gone = all-go;
+      in-order = displaced-in-order;
+      order-once = order-once;
+      chains-once = chains-once;
+      computed = withdrawn-is-chains;
+      one = list-of-one;
+      one-call = one-as-before;
+      none = none-changed;
+      enough = enough-items;
+      line = line-items;
+    }
+
 pub guarantees : Guarantees
-guarantees = record { demand1 = demand-1; demand2 = demand-2; demand3 = demand-3; page = kitchen-page }
+guarantees = record { demand1 = demand-1; demand2 = demand-2; demand3 = demand-3; page = kitchen-page; steam = steam-line }

@@ -3,22 +3,24 @@ use mathlib.Core.Path.{_≡_, refl}
 use mathlib.Core.Bool.{Bool, true, false, cond}
 use mathlib.Core.List.{List, [], _∷_}
 use mathlib.Core.Logic.{by-cases}
-use Prim.Native.Nat.{ℕ, zero, suc, _+_, _*_, _≤_, _<_}
+use Prim.Native.Nat.{ℕ, zero, suc, _+_, _-_, _*_, _≤_, _<_}
 use native.Mathlib.Decide.{decLt}
 use native.Mathlib.Nat.{mul-le-mul}
 use native.Mathlib.Omega.{arith}
 use lib.ListN.{getD, set, drop, replicate, length-take, List·getD-eq-default}
 use Rattle.duality.specs.Steps.{Open}
 use Rattle.board.specs.declared.record.Auction.{Auction}
+use Rattle.board.specs.declared.record.Holder.{Holder}
+use Rattle.board.specs.declared.record.Holder.the-variants.{Held, Free}
 use Rattle.board.specs.declared.units.Scaled.{Scaled}
 use Rattle.board.specs.Limits.{maxItems, maxBidders, maxWeight, maxQ, maxPrice}
-use Rattle.board.specs.Cells.{scaled, scaledAt, priceAt, gainAt, withdrawnAt, rowAt}
+use Rattle.board.specs.Cells.{scaled, scaledAt, priceAt, gainAt, holderAt, holderOf, withdrawnAt, rowAt}
 use Rattle.board.specs.Live.{live}
 use Rattle.board.specs.Sound.{Sound}
 use Rattle.bidding.specs.Rule.{placedAt, bidden, displaced, Chain, stays, takes, displaces}
 use Rattle.board.specs.Opening.{opened}
 use Rattle.bidding.specs.Moves.{entered, released}
-use Rattle.auction.specs.Demand2.{Leaves, free, held}
+use Rattle.bidding.specs.Withdrawals.{displacedIf, vacated, vacatedTo, Chains, ended, next}
 use Rattle.auction.specs.Histories.{Reached, opens, arrives, withdraws}
 use Rattle.board.proofs.Filed.{row-cell}
 use Rattle.board.proofs.LiveLaws.{weighed-edges}
@@ -97,12 +99,31 @@ chain-light (stays none) l = l
 chain-light (takes ch f) l = record { q = l .q; weights = l .weights }
 chain-light (displaces ch h r) l = let m = chain-light r l in record { q = m .q; weights = m .weights }
 
-leaves-modest : {b c : Auction} {k n : ℕ} → Leaves b k c n → Sound c → Modest b → Modest c
-unfolding released displaced
-leaves-modest {b} {k = k} (free e) s m = record { prices = set-below (b .state .price) k 0 (m .prices) (omega arith); gains = m .gains }
-leaves-modest {b} {k = k} (held {x = x} e r) s m =
-    chain-modest r (chain-light r (sound-light s))
-    (record { prices = set-below (b .state .price) k 0 (m .prices) (omega arith); gains = set-below (b .state .gain) x 0 (m .gains) (omega arith) })
+-- Chains one after the other
+chains-light : {b c : Auction} {xs : List ℕ} {n : ℕ} → Chains b xs c n → Light c → Light b
+chains-light ended l = l
+chains-light (next r t) l = chain-light r (chains-light t l)
+
+chains-modest : {b c : Auction} {xs : List ℕ} {n : ℕ} → Chains b xs c n → Light c → Modest b → Modest c
+chains-modest ended l m = m
+chains-modest (next r t) l m = chains-modest t l (chain-modest r (chain-light r (chains-light t l)) m)
+
+-- Items that go
+vacated-modest : {b : Auction} (k : ℕ) → Modest b → Modest (vacated b k)
+unfolding vacated displacedIf released
+vacated-modest {b} k m = go (holderOf (holderAt b k))
+  where
+    left : Modest (released b k)
+    left = record { prices = set-below (b .state .price) k 0 (m .prices) (omega arith); gains = m .gains }
+
+    go : (h : Holder) → Modest (displacedIf (released b k) h)
+    go Free = left
+    go (Held x) = displaced-modest x left
+
+all-modest : {b : Auction} (item : ℕ → ℕ) (n : ℕ) → Modest b → Modest (vacatedTo b item n)
+unfolding vacatedTo
+all-modest item zero m = m
+all-modest item (suc n) m = vacated-modest (item n - 1) (all-modest item n m)
 
 entered-modest : {b : Auction} (row : List ℕ) → Modest b → Modest (entered b row)
 unfolding entered
@@ -122,6 +143,6 @@ reached-modest (arrives {b = b} edges r t h) =
     (λ j. let c = j .after .settles .chain in chain-modest c (chain-light c (sound-light (j .after .sound))) (entered-modest (rowOf edges) m))
     (λ q. m)
     r h
-reached-modest (withdraws {b = b} item r t h) =
+reached-modest (withdraws {b = b} items r t h) =
     let m = reached-modest t in
-    withdraw-all b item (λ r. Modest (r .auction)) (λ j. leaves-modest (j .leaves) (j .after) m) (λ q. m) r h
+    withdraw-all b items (λ r. Modest (r .auction)) (λ j. chains-modest (j .ends .chains) (sound-light (j .ends .sound)) (all-modest _ _ m)) (λ q. m) r h

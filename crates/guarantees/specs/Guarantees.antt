@@ -5,12 +5,15 @@ use Rattle.board.specs.SoundTest.{SoundTestDecides}
 use Rattle.refusals.specs.Codes.{CodesApart}
 use Rattle.refusals.specs.Told.{ToldApart}
 use Rattle.bidding.specs.RuleLaws.{BestIsChosen, ChosenOnce, TiesByWeight, ChainOnce}
+use Rattle.bidding.specs.WithdrawalLaws.{AllGo, DisplacedInOrder, OrderOnce, ChainsOnce, WithdrawnIsChains, ListOfOne}
+use Rattle.auction.specs.OneItem.{OneAsBefore, NoneChanged}
+use Rattle.auction.specs.EnoughItems.{EnoughItems}
 use Rattle.auction.specs.Demand1.{OpenDemand1, ArriveDemand1, WithdrawDemand1, ReadOutDemand1, CallOrders}
 use Rattle.auction.specs.Demand2.{ArriveEnds, WithdrawEnds, ArriveDemand2, WithdrawDemand2, SoundDemand2, ReadOutDemand2}
 use Rattle.auction.specs.Histories.{HistoryDemand2}
 use Rattle.replay.specs.Says.{SaysOnce, LineSaid, LineMalformed}
 use Rattle.replay.specs.TextDemand1.{TextsDemand1}
-use Rattle.replay.specs.ReplayLaws.{ReplayEnds, LinesReached, ReplayReached, RefusedBefore}
+use Rattle.replay.specs.ReplayLaws.{ReplayEnds, LinesReached, ReplayReached, RefusedBefore, LineItems}
 use Rattle.hungarian.specs.Demand3.{EqualExactlyWhenBestOn, ExactGivesDemand3, ExactDemand1, ExactIsBest, ExactKeeps}
 use Rattle.certificate.specs.Demand1.{CheckDemand1, CheckOrder}
 use Rattle.history.specs.Demand1.{PlansDemand1, SheetsDemand1}
@@ -123,8 +126,29 @@ pub record KitchenPage : Type 0 where
   -- "The page must read back to the same plan, worths and gains"
   pub back : ReadsBack
 
+-- R-3, a steam line fails
+pub record SteamLine : Type 0 where
+  -- "All go first": every item of the list is withdrawn at price 0, and every holder is unplaced at gain 0, before the first bid; all else is as it was
+  pub gone : AllGo
+  -- "then the displaced batches bid in number order": those who held an item of the list, each once, in rising number; there is one such list
+  pub in-order : DisplacedInOrder
+  pub order-once : OrderOnce
+  -- "each chain run to its end": one chain after the other has one outcome, which is the computed one; it is never spent, leaves a sound board, and makes
+  -- at most as many bids as the potential rises by
+  pub chains-once : ChainsOnce
+  pub computed : WithdrawnIsChains
+  -- "A list of one acts as before": the board and the count that the withdrawal of one item left until now; and so does the call, but for the place
+  pub one : ListOfOne
+  pub one-call : OneAsBefore
+  -- "an empty list changes nothing in a call"
+  pub none : NoneChanged
+  -- Of any list the first 65 items decide; and a line is carried out with all its numbers
+  pub enough : EnoughItems
+  pub line : LineItems
+
 pub record Guarantees : Type 0 where
   pub demand1 : TableFirst
   pub demand2 : QuickBids
   pub demand3 : EqualPairs
   pub page : KitchenPage
+  pub steam : SteamLine

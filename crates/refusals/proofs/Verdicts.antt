@@ -9,6 +9,7 @@ use native.Mathlib.Omega.{arith}
 use Rattle.duality.specs.Decide.{Decides}
 use Rattle.duality.proofs.Decide.{clash, false-is}
 use Rattle.refusals.specs.declared.Refusal.{Refusal}
+use Rattle.refusals.specs.declared.Verdict.{Verdict}
 use Rattle.refusals.specs.declared.Verdict.the-variants.{Served, Refused}
 use Rattle.refusals.specs.declared.Refusal.the-variants.{Count, Slack, Full, Unknown, Gone, Worth, Order, Short, Uneven, Clash, Price, Bare, Spoilt, Line, Long}
 use Rattle.refusals.specs.Codes.{Code, codeOf, CodesApart}
@@ -153,6 +154,14 @@ first-stops (c ∷ checks) rest r e = go (c .test) e (first-stops checks rest r)
     go true e f = e
     go false e f = f e
 
+-- Both are served
+pub served-both : (xs ys : List Check) → firstOf (xs ++ ys) ≡ Served → (firstOf xs ≡ Served) × (firstOf ys ≡ Served)
+served-both xs ys e = go (firstOf xs) refl
+  where
+    go : (v : Verdict) → firstOf xs ≡ v → (firstOf xs ≡ Served) × (firstOf ys ≡ Served)
+    go Served q = (q, sym (first-on xs ys q) ∙ e)
+    go (Refused r) q = absurd (apart r (sym e ∙ first-stops xs ys r q))
+
 -- The first test fails, and the rest is served
 pub served-next : (c : Check) (rest : List Check) → firstOf (c ∷ rest) ≡ Served → (c .test ≡ false) × (firstOf rest ≡ Served)
 unfolding firstOf
@@ -161,3 +170,11 @@ served-next c rest e = go (c .test) refl e
     go : (t : Bool) → c .test ≡ t → cond t (Refused (c .refusal)) (firstOf rest) ≡ Served → (c .test ≡ false) × (firstOf rest ≡ Served)
     go true q e = let z : _≡_ {A = ℕ} 0 1 = cc in absurd (omega arith)
     go false q e = (q, e)
+
+-- What is not served is refused
+pub unserved : (checks : List Check) → (firstOf checks ≡ Served → ⊥) → (r : Refusal) × (firstOf checks ≡ Refused r)
+unserved checks f = go (firstOf checks) refl
+  where
+    go : (v : Verdict) → firstOf checks ≡ v → (r : Refusal) × (firstOf checks ≡ Refused r)
+    go Served e = absurd (f e)
+    go (Refused r) e = (r, e)

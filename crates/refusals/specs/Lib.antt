@@ -2,3 +2,4 @@
 pub mod Codes
 pub mod Told
 pub mod Demand1
+pub mod Each

@@ -4,9 +4,9 @@ use mathlib.Core.Bool.{Bool, true, false, _&&_}
 use mathlib.Core.List.{List}
 use Prim.Native.Nat.{ℕ, zero, suc, _+_, _*_, _/_, _%_, _<_, min}
 use native.Mathlib.Omega.{arith}
-use lib.ListN.{length, getD, set}
+use lib.ListN.{length, getD, set, take}
 use lib.Seq.{getD-set-same, getD-set-other}
-use lib.Dec.{eqb}
+use lib.Dec.{eqb, ltb}
 use borrow.Author.Tests.{eqb-true, ne-eqb}
 use Rattle.duality.proofs.Below.{one-more}
 use Rattle.text.specs.declared.line.Line.{Line}
@@ -31,11 +31,15 @@ abbrev pub isArrival : Line → Bool
 isArrival l = eqb (l .letter) 65 && eqb (l .count % 2) 0
 
 abbrev pub isWithdrawal : Line → Bool
-isWithdrawal l = eqb (l .letter) 87 && eqb (l .count) 1
+isWithdrawal l = eqb (l .letter) 87 && ltb 0 (l .count)
 
 -- The edges that an arrival's line gives
 abbrev pub edgesSaid : Line → List Edge
 edgesSaid l = pairsOf (l .numbers) (min (l .count / 2) maxEdges)
+
+-- The items that a withdrawal's line gives
+abbrev pub itemsSaid : Line → List ℕ
+itemsSaid l = take (min (l .count) maxEdges) (l .numbers)
 
 module _ (l : Line) where
   letter-is : (kind : ℕ) (fits : Bool) → eqb (l .letter) kind && fits ≡ true → l .letter ≡ kind
@@ -49,10 +53,10 @@ module _ (l : Line) where
   unfolding commandOf
   says-arrives e = let a = letter-is 65 (eqb (l .count % 2) 0) e in rw (ne-eqb (l .letter) 75 (λ q. omega arith), e)
 
-  pub says-withdraws : isWithdrawal l ≡ true → commandOf l ≡ withdraws (getD (l .numbers) 0 0)
+  pub says-withdraws : isWithdrawal l ≡ true → commandOf l ≡ withdraws (itemsSaid l)
   unfolding commandOf
   says-withdraws e =
-      let a = letter-is 87 (eqb (l .count) 1) e in
+      let a = letter-is 87 (ltb 0 (l .count)) e in
       rw (ne-eqb (l .letter) 75 (λ q. omega arith), ne-eqb (l .letter) 65 (λ q. omega arith), e)
 
   -- A line after the first: an arrival, a withdrawal, or else a further `K` or no form
@@ -61,7 +65,7 @@ module _ (l : Line) where
     unfolding carryOut
     carries-arrival e = rw (says-arrives e)
 
-    pub carries-withdrawal : isWithdrawal l ≡ true → carryOut next n b bids (commandOf l) ≡ afterWithdrawal next n bids (withdrawOf b (getD (l .numbers) 0 0))
+    pub carries-withdrawal : isWithdrawal l ≡ true → carryOut next n b bids (commandOf l) ≡ afterWithdrawal next n bids (withdrawOf b (itemsSaid l))
     unfolding carryOut
     carries-withdrawal e = rw (says-withdraws e)
 

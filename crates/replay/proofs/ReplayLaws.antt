@@ -100,9 +100,9 @@ lines-reached s n at b entries bids (first {k} {p} {q} w u) =
 lines-reached s n at b entries bids (arrived {k = k} {c = c} {edges = edges} t w u) =
     let h = arrived-bids (u .answer) k (u .tells) in
     Reached.arrives edges (arrival c (Arrived.Bids k)) (lines-reached s _ _ _ _ _ t) (u .outcome ∙ ap (λ a. done (arrival c a)) h)
-lines-reached s n at b entries bids (withdrew {k = k} {item = item} {c = c} t w u) =
+lines-reached s n at b entries bids (withdrew {k = k} {c = c} {items = items} t w u) =
     let h = withdrawn-bids (u .answer) k (u .tells) in
-    Reached.withdraws item (withdrawal c (Withdrawn.Bids k)) (lines-reached s _ _ _ _ _ t) (u .outcome ∙ ap (λ a. done (withdrawal c a)) h)
+    Reached.withdraws items (withdrawal c (Withdrawn.Bids k)) (lines-reached s _ _ _ _ _ t) (u .outcome ∙ ap (λ a. done (withdrawal c a)) h)
 
 pub replay-reached : ReplayReached
 replay-reached s b bids a =

@@ -58,9 +58,9 @@ pub arrival-reached : {b c : Auction} {a : Arrived} {bids k : ℕ} (edges : List
     done (arrival c a) ≡ arriveOf b edges → a ≡ Arrived.Bids k → ReachedBy b bids → ReachedBy c (bids + k)
 arrival-reached {c = c} edges h e t = (_, Reached.arrives edges (arrival c (Arrived.Bids _)) (t .1) (sym h ∙ ap (λ a. done (arrival c a)) e))
 
-pub withdrawal-reached : {b c : Auction} {a : Withdrawn} {bids k : ℕ} (item : ℕ) →
-    done (withdrawal c a) ≡ withdrawOf b item → a ≡ Withdrawn.Bids k → ReachedBy b bids → ReachedBy c (bids + k)
-withdrawal-reached {c = c} item h e t = (_, Reached.withdraws item (withdrawal c (Withdrawn.Bids _)) (t .1) (sym h ∙ ap (λ a. done (withdrawal c a)) e))
+pub withdrawal-reached : {b c : Auction} {a : Withdrawn} {bids k : ℕ} (items : List ℕ) →
+    done (withdrawal c a) ≡ withdrawOf b items → a ≡ Withdrawn.Bids k → ReachedBy b bids → ReachedBy c (bids + k)
+withdrawal-reached {c = c} items h e t = (_, Reached.withdraws items (withdrawal c (Withdrawn.Bids _)) (t .1) (sym h ∙ ap (λ a. done (withdrawal c a)) e))
 
 pub bids-fit : {b : Auction} {bids : ℕ} → ReachedBy b bids → bids ≤ maxBidders * maxItems * maxQ
 bids-fit {b} t =
@@ -105,11 +105,11 @@ carried n b bids (arrives edges) = let u = arrive-ends b edges in go (u .0 .auct
     go c (Arrived.Bids k) h =
         (_, goes (λ next. sym (arrival-goes next n bids h refl)) (arrival-reached edges h refl) (λ e. let z : _≡_ {A = ℕ} 0 1 = cc in omega arith))
     go c (Arrived.Refused r) h = (_, stops (λ next. sym (arrival-stops next n bids h refl)))
-carried n b bids (withdraws item) = let u = withdraw-ends b item in go (u .0 .auction) (u .0 .answer) (sym (u .1))
+carried n b bids (withdraws items) = let u = withdraw-ends b items in go (u .0 .auction) (u .0 .answer) (sym (u .1))
   where
-    go : (c : Auction) (a : Withdrawn) → done (withdrawal c a) ≡ withdrawOf b item → (r : Replayed) × Carried n b bids (withdraws item) r
+    go : (c : Auction) (a : Withdrawn) → done (withdrawal c a) ≡ withdrawOf b items → (r : Replayed) × Carried n b bids (withdraws items) r
     go c (Withdrawn.Bids k) h =
-        (_, goes (λ next. sym (withdrawal-goes next n bids h refl)) (withdrawal-reached item h refl) (λ e. let z : _≡_ {A = ℕ} 0 1 = cc in omega arith))
+        (_, goes (λ next. sym (withdrawal-goes next n bids h refl)) (withdrawal-reached items h refl) (λ e. let z : _≡_ {A = ℕ} 0 1 = cc in omega arith))
     go c (Withdrawn.Refused r) h = (_, stops (λ next. sym (withdrawal-stops next n bids h refl)))
 
 -- An ending is one of two

@@ -6,8 +6,8 @@ use mathlib.Core.List.{List, [], _∷_, _++_}
 use Prim.Native.Nat.{ℕ, zero, suc, _+_, _*_, _/_, _%_, _<_, _≤_}
 use native.Mathlib.Omega.{arith}
 use lib.ListN.{length, getD}
-use lib.Dec.{eqb}
-use borrow.Author.Tests.{eqb-true, eq-eqb}
+use lib.Dec.{eqb, ltb}
+use borrow.Author.Tests.{eqb-true, eq-eqb, ltb-true, lt-ltb}
 use Rattle.text.specs.declared.line.Line.{Line}
 use Rattle.text.specs.Line.{all, lineWith, lineAt}
 use Rattle.text.specs.Form.{LineForm}
@@ -17,8 +17,8 @@ use Rattle.board.specs.declared.record.Edge.{Edge}
 use Rattle.board.specs.Cells.{edge}
 use Rattle.replay.specs.Replay.{Command, opens, arrives, withdraws, malformed, pairsOf, commandOf, carryOut, firstLine}
 use Rattle.replay.specs.Says.{Pairs, none, pair, Says, opening, arrival, withdrawal, SaysOnce, LineSaid, LineMalformed}
-use Rattle.replay.proofs.ReplayForms.{isOpening, isArrival, isWithdrawal, edgesSaid, says-arrives}
-use Rattle.replay.proofs.LinePairs.{line-edges}
+use Rattle.replay.proofs.ReplayForms.{isOpening, isArrival, isWithdrawal, edgesSaid, itemsSaid, says-arrives, says-withdraws}
+use Rattle.replay.proofs.LinePairs.{line-edges, line-items}
 
 -- ---- Pairs
 
@@ -53,9 +53,8 @@ module _ {s : List ℕ} {at next : ℕ} where
   unfolding commandOf
   said-opens {k} {p} {q} c w = ap commandOf (line-complete s at (k ∷ (p ∷ (q ∷ []))) next w) ∙ rw c refl
 
-  said-withdraws : {k : ℕ} → getD s at 0 ≡ 87 → LineForm s at (k ∷ []) next → commandOf (lineAt s at) ≡ withdraws k
-  unfolding commandOf
-  said-withdraws {k} c w = ap commandOf (line-complete s at (k ∷ []) next w) ∙ rw c refl
+  said-withdraws : {k : ℕ} {ns : List ℕ} → getD s at 0 ≡ 87 → LineForm s at (k ∷ ns) next → commandOf (lineAt s at) ≡ withdraws (itemsSaid (lineAt s at))
+  said-withdraws {k} {ns} c w = says-withdraws (lineAt s at) (rw (line-complete s at (k ∷ ns) next w, eq-eqb (getD s at 0) 87 c, lt-ltb 0 (suc (length ns)) (omega arith)))
 
   said-arrives : {ns : List ℕ} → getD s at 0 ≡ 65 → LineForm s at ns next → length ns % 2 ≡ 0 → commandOf (lineAt s at) ≡ arrives (edgesSaid (lineAt s at))
   said-arrives {ns} c w even = says-arrives (lineAt s at) (rw (line-complete s at ns next w, eq-eqb (getD s at 0) 65 c, eq-eqb (length ns % 2) 0 even))
@@ -69,9 +68,8 @@ unfolding firstLine carryOut
 line-said s at command next (opening c w) =
     let e = said-opens c w in
     record { moves = moves-on w; first = ap (firstLine s next) e; later = λ rest n b bids. ap (carryOut rest n b bids) e }
-line-said s at command next (withdrawal c w) =
-    let e = said-withdraws c w in
-    record { moves = moves-on w; first = ap (firstLine s next) e; later = λ rest n b bids. ap (carryOut rest n b bids) e }
+line-said s at command next (withdrawal {k} {ns = ns} c w) =
+    record { moves = moves-on w; first = ap (firstLine s next) (said-withdraws c w); later = λ rest n b bids. line-items s at (k ∷ ns) next w c (omega arith) rest n b bids }
 line-said s at command next (arrival {ns} {edges} c w p) =
     record {
       moves = moves-on w;
@@ -94,10 +92,9 @@ three (k ∷ (p ∷ [])) e = absurd (omega arith)
 three (k ∷ (p ∷ (q ∷ []))) e = (k, p, q, refl)
 three (k ∷ (p ∷ (q ∷ (r ∷ ns)))) e = absurd (omega arith)
 
-single : (ns : List ℕ) → length ns ≡ 1 → (k : ℕ) × (ns ≡ k ∷ [])
-single [] e = absurd (omega arith)
-single (k ∷ []) e = (k, refl)
-single (k ∷ (p ∷ ns)) e = absurd (omega arith)
+some : (ns : List ℕ) → 0 < length ns → (k : ℕ) × (ms : List ℕ) × (ns ≡ k ∷ ms)
+some [] l = absurd (omega arith)
+some (k ∷ ms) l = (k, ms, refl)
 
 abbrev pub Said : List ℕ → ℕ → Type 0
 Said s at = (commandOf (lineAt s at) ≡ malformed) ⊎ ((command : Command) × (next : ℕ) × Says s at command next)
@@ -125,9 +122,9 @@ module _ (s : List ℕ) (at : ℕ) where
 
     by-withdrawal : isWithdrawal read ≡ true → Said s at
     by-withdrawal e =
-        let u = both (eqb letter 87) (eqb (length ns) 1) e in
-        let (k, h) = single ns (eqb-true (length ns) 1 (u .1)) in
-        inr (withdraws k, next, withdrawal (eqb-true letter 87 (u .0)) (rw h at w))
+        let u = both (eqb letter 87) (ltb 0 (length ns)) e in
+        let (k, ms, h) = some ns (ltb-true 0 (length ns) (u .1)) in
+        inr (withdraws (k ∷ ms), next, withdrawal (eqb-true letter 87 (u .0)) (rw h at w))
 
     by-none : isOpening read ≡ false → isArrival read ≡ false → isWithdrawal read ≡ false → Said s at
     unfolding commandOf
@@ -177,11 +174,8 @@ says-once s at c d next end (opening {k} {p} {q} a w) (opening {k = j} {p = r} {
     (rw (x, y, z) refl, u .1)
 says-once s at c d next end (arrival {ns} a w p) (arrival {ns = ms} b v q) =
     let u = line-once s at ns ms next end w v in (ap arrives (pairs-once (u .0) p q), u .1)
-says-once s at c d next end (withdrawal {k} a w) (withdrawal {k = j} b v) =
-    let u = line-once s at (k ∷ []) (j ∷ []) next end w v in
-    let e = u .0 in
-    let x : k ≡ j = cc in
-    (ap withdraws x, u .1)
+says-once s at c d next end (withdrawal {k} {ns = ns} a w) (withdrawal {k = j} {ns = ms} b v) =
+    let u = line-once s at (k ∷ ns) (j ∷ ms) next end w v in (ap withdraws (u .0), u .1)
 says-once s at c d next end (opening a w) (arrival b v q) = absurd (omega (arith, a, b))
 says-once s at c d next end (opening a w) (withdrawal b v) = absurd (omega (arith, a, b))
 says-once s at c d next end (arrival a w p) (opening b v) = absurd (omega (arith, a, b))

@@ -1,6 +1,6 @@
 -- What comes of a text is what its lines say: each way, and so exactly.
 use mathlib.Core.Path.{_≡_, refl, sym, ap, subst, _∙_}
-use mathlib.Core.Logic.{_⊎_, ⊎-elim}
+use mathlib.Core.Logic.{⊎-elim}
 use mathlib.Core.Bool.{Bool, true, false}
 use mathlib.Core.List.{List}
 use Prim.Native.Nat.{ℕ, zero, suc, _+_, _-_, _<_, _≤_}
@@ -42,13 +42,13 @@ module _ (next : Next) (n bids : ℕ) {b c : Auction} where
   unfolding carryOut
   arrival-refused edges r a = sym (arrival-stops next n bids (sym (a .outcome)) (arrived-refused (a .answer) r (a .tells)))
 
-  withdrawal-served : (item k : ℕ) → WithdrawAnswers b item c (served k) → carryOut next n b bids (withdraws item) ≡ next c (bids + k)
+  withdrawal-served : (items : List ℕ) (k : ℕ) → WithdrawAnswers b items c (served k) → carryOut next n b bids (withdraws items) ≡ next c (bids + k)
   unfolding carryOut
-  withdrawal-served item k a = sym (withdrawal-goes next n bids (sym (a .outcome)) (withdrawn-bids (a .answer) k (a .tells)))
+  withdrawal-served items k a = sym (withdrawal-goes next n bids (sym (a .outcome)) (withdrawn-bids (a .answer) k (a .tells)))
 
-  withdrawal-refused : (item : ℕ) (r : Refusal) → WithdrawAnswers b item c (refused r) → carryOut next n b bids (withdraws item) ≡ stopped c bids r n
+  withdrawal-refused : (items : List ℕ) (r : Refusal) → WithdrawAnswers b items c (refused r) → carryOut next n b bids (withdraws items) ≡ stopped c bids r n
   unfolding carryOut
-  withdrawal-refused item r a = sym (withdrawal-stops next n bids (sym (a .outcome)) (withdrawn-refused (a .answer) r (a .tells)))
+  withdrawal-refused items r a = sym (withdrawal-stops next n bids (sym (a .outcome)) (withdrawn-refused (a .answer) r (a .tells)))
 
 -- The first line
 module _ (s : List ℕ) (next k p q : ℕ) {b : Auction} where
@@ -88,13 +88,13 @@ silent = elim [ ]
 not-arrival : {A : Type 0} {s : List ℕ} {at k p q j next : ℕ} {edges : List Edge} → Says s at (opens k p q) j → Says s at (arrives edges) next → A
 not-arrival (opening c w) (arrival d v u) = absurd (omega (arith, c, d))
 
-not-withdrawal : {A : Type 0} {s : List ℕ} {at k p q j item next : ℕ} → Says s at (opens k p q) j → Says s at (withdraws item) next → A
+not-withdrawal : {A : Type 0} {s : List ℕ} {at k p q j next : ℕ} {items : List ℕ} → Says s at (opens k p q) j → Says s at (withdraws items) next → A
 not-withdrawal (opening c w) (withdrawal d v) = absurd (omega (arith, c, d))
 
 arrival-unopened : {A : Type 0} {s : List ℕ} {at k p q j next : ℕ} {edges : List Edge} → Says s at (arrives edges) next → Says s at (opens k p q) j → A
 arrival-unopened u w = not-arrival w u
 
-withdrawal-unopened : {A : Type 0} {s : List ℕ} {at k p q j item next : ℕ} → Says s at (withdraws item) next → Says s at (opens k p q) j → A
+withdrawal-unopened : {A : Type 0} {s : List ℕ} {at k p q j next : ℕ} {items : List ℕ} → Says s at (withdraws items) next → Says s at (opens k p q) j → A
 withdrawal-unopened u w = not-withdrawal w u
 
 -- ---- From the text to what its lines are
@@ -127,24 +127,24 @@ lines-fate (suc fuel) s n at e m b h f t = go (ltb at (length s)) refl (lines-fa
         (λ u. (_, line-turn w fuel (suc n) b m ∙ arrival-refused _ (suc n) m edges (u .0) (u .1), stops (LineRefused.arrival t w (u .1))))
         (arrive-either b edges)
 
-    by-withdrawal : {item next : ℕ} → Says s at (withdraws item) next → FatedFrom fuel s (suc n) → Fated s (linesFrom (suc fuel) s at (suc n) b m)
-    by-withdrawal {item} {next} w rest =
+    by-withdrawal : {items : List ℕ} {next : ℕ} → Says s at (withdraws items) next → FatedFrom fuel s (suc n) → Fated s (linesFrom (suc fuel) s at (suc n) b m)
+    by-withdrawal {items} {next} w rest =
         let a = said-ahead w in
         ⊎-elim
-        (λ u. on next _ (u .0) (line-turn w fuel (suc n) b m ∙ withdrawal-served _ (suc n) m item (u .1) (u .2)) (rest next _ _ (u .0) (a .1) (omega (arith, a .0)) (withdrew t w (u .2))))
-        (λ u. (_, line-turn w fuel (suc n) b m ∙ withdrawal-refused _ (suc n) m item (u .0) (u .1), stops (LineRefused.withdrawal t w (u .1))))
-        (withdraw-either b item)
+        (λ u. on next _ (u .0) (line-turn w fuel (suc n) b m ∙ withdrawal-served _ (suc n) m items (u .1) (u .2)) (rest next _ _ (u .0) (a .1) (omega (arith, a .0)) (withdrew t w (u .2))))
+        (λ u. (_, line-turn w fuel (suc n) b m ∙ withdrawal-refused _ (suc n) m items (u .0) (u .1), stops (LineRefused.withdrawal t w (u .1))))
+        (withdraw-either b items)
 
     by-said : at < length s → (command : Command) (next : ℕ) → Says s at command next → FatedFrom fuel s (suc n) → Fated s (linesFrom (suc fuel) s at (suc n) b m)
-    by-said l (opens k p q) next w rest = (_, again s at fuel (suc n) b m w, stops (LineRefused.malformed t l (λ edges j v. not-arrival w v) (λ item j v. not-withdrawal w v)))
+    by-said l (opens k p q) next w rest = (_, again s at fuel (suc n) b m w, stops (LineRefused.malformed t l (λ edges j v. not-arrival w v) (λ items j v. not-withdrawal w v)))
     by-said l (arrives edges) next w rest = by-arrival w rest
-    by-said l (withdraws item) next w rest = by-withdrawal w rest
+    by-said l (withdraws items) next w rest = by-withdrawal w rest
     by-said l malformed next w rest = absurd (silent w)
 
     by-line : at < length s → FatedFrom fuel s (suc n) → Said s at → Fated s (linesFrom (suc fuel) s at (suc n) b m)
     by-line l rest =
         ⊎-elim
-        (λ q. (_, ill s at fuel (suc n) b m l q, stops (LineRefused.malformed t l (λ edges j v. spoken v q) (λ item j v. spoken v q))))
+        (λ q. (_, ill s at fuel (suc n) b m l q, stops (LineRefused.malformed t l (λ edges j v. spoken v q) (λ items j v. spoken v q))))
         (λ u. by-said l (u .0) (u .1) (u .2) rest)
 
     go : (x : Bool) → ltb at (length s) ≡ x → FatedFrom fuel s (suc n) → Fated s (linesFrom (suc fuel) s at (suc n) b m)
@@ -185,7 +185,7 @@ module _ (s : List ℕ) where
       by-said : (command : Command) (next : ℕ) → Says s 0 command next → replayOf s ≡ stopped (opened 0 0 0) 0 (Refusal.Line 1) 1
       by-said (opens k p q) next w = absurd (f k p q next w)
       by-said (arrives edges) next w = begins-as h w
-      by-said (withdraws item) next w = begins-as h w
+      by-said (withdraws items) next w = begins-as h w
       by-said malformed next w = absurd (silent w)
 
   unopened : length s ≤ 65536 → ((k p q next : ℕ) → Says s 0 (opens k p q) next → ⊥) → Fated s (replayOf s)
@@ -202,7 +202,7 @@ module _ (s : List ℕ) where
           (λ u. (_, begins-as h w ∙ opening-refused s next k p q (u .0) (u .1), stops (LineRefused.opening w (u .1))))
           (opening-either k p q)
       by-said (arrives edges) next w = unopened h (λ k p q j v. arrival-unopened w v)
-      by-said (withdraws item) next w = unopened h (λ k p q j v. withdrawal-unopened w v)
+      by-said (withdraws items) next w = unopened h (λ k p q j v. withdrawal-unopened w v)
       by-said malformed next w = absurd (silent w)
 
   pub replay-fate : (r : Replayed) × (replayOf s ≡ done r) × TextFate s r
@@ -244,7 +244,7 @@ module _ {s : List ℕ} (h : length s ≤ 65536) where
       let z : length s + 2 - 1 ≡ suc (length s) = omega arith in
       record { some = omega arith; few = a .0; inside = a .1; rest = rw z (sym (begins-as s h w ∙ opening-served s next k p q u)) }
   comes (arrived {k = k} {edges = edges} t w u) = comes-on (comes t) w (λ rest. arrival-served rest _ _ edges k u)
-  comes (withdrew {k = k} {item = item} t w u) = comes-on (comes t) w (λ rest. withdrawal-served rest _ _ item k u)
+  comes (withdrew {k = k} {items = items} t w u) = comes-on (comes t) w (λ rest. withdrawal-served rest _ _ items k u)
 
   -- The line is reached, and stops the text
   stops-at : {n at m : ℕ} {b : Auction} {r : Refusal} → Comes s n at b m → ((fuel : ℕ) → linesFrom (suc fuel) s at (suc n) b m ≡ stopped b m r (suc n)) →
@@ -254,13 +254,13 @@ module _ {s : List ℕ} (h : length s ≤ 65536) where
       sym (t .rest) ∙ ap (λ (f : ℕ). linesFrom f s at (suc n) b m) z ∙ e _
 
   ill-formed : {n at m : ℕ} {b : Auction} (fuel : ℕ) → at < length s → ((edges : List Edge) (next : ℕ) → Says s at (arrives edges) next → ⊥) →
-      ((item next : ℕ) → Says s at (withdraws item) next → ⊥) → Said s at → linesFrom (suc fuel) s at (suc n) b m ≡ stopped b m (Refusal.Line (suc n)) (suc n)
+      ((items : List ℕ) (next : ℕ) → Says s at (withdraws items) next → ⊥) → Said s at → linesFrom (suc fuel) s at (suc n) b m ≡ stopped b m (Refusal.Line (suc n)) (suc n)
   ill-formed {n} {at} {m} {b} fuel l f g = ⊎-elim (ill s at fuel (suc n) b m l) (λ u. by-said (u .0) (u .1) (u .2))
     where
       by-said : (command : Command) (next : ℕ) → Says s at command next → linesFrom (suc fuel) s at (suc n) b m ≡ stopped b m (Refusal.Line (suc n)) (suc n)
       by-said (opens k p q) next w = again s at fuel (suc n) b m w
       by-said (arrives edges) next w = absurd (f edges next w)
-      by-said (withdraws item) next w = absurd (g item next w)
+      by-said (withdraws items) next w = absurd (g items next w)
       by-said malformed next w = absurd (silent w)
 
   line-refused : {n m : ℕ} {b : Auction} {r : Refusal} → LineRefused s n b m r → replayOf s ≡ stopped b m r n
@@ -269,8 +269,8 @@ module _ {s : List ℕ} (h : length s ≤ 65536) where
   line-refused (LineRefused.malformed {n} {at} {e} {m} {b} t l f g) = stops-at (comes t) (λ fuel. ill-formed fuel l f g (said s at))
   line-refused (LineRefused.arrival {n = n} {m = m} {b = b} {edges = edges} {r = r} t w u) =
       stops-at (comes t) (λ fuel. line-turn w fuel (suc n) b m ∙ arrival-refused _ (suc n) m edges r u)
-  line-refused (LineRefused.withdrawal {n = n} {m = m} {item = item} {b = b} {r = r} t w u) =
-      stops-at (comes t) (λ fuel. line-turn w fuel (suc n) b m ∙ withdrawal-refused _ (suc n) m item r u)
+  line-refused (LineRefused.withdrawal {n = n} {m = m} {b = b} {items = items} {r = r} t w u) =
+      stops-at (comes t) (λ fuel. line-turn w fuel (suc n) b m ∙ withdrawal-refused _ (suc n) m items r u)
 
 pub refused-text : {s : List ℕ} {n m : ℕ} {b : Auction} {r : Refusal} → TextRefused s n b m r → replayOf s ≡ stopped b m r n
 refused-text {s} (TextRefused.long l) = too-long s l

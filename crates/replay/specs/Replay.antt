@@ -2,7 +2,7 @@
 use mathlib.Core.Bool.{cond, _&&_}
 use mathlib.Core.List.{List, [], _∷_, _++_}
 use Prim.Native.Nat.{ℕ, zero, suc, _+_, _*_, _/_, _%_, min}
-use lib.ListN.{length, getD}
+use lib.ListN.{length, getD, take}
 use lib.Dec.{eqb, ltb}
 use Rattle.text.specs.declared.line.Line.{Line}
 use Rattle.text.specs.Line.{lineAt}
@@ -25,11 +25,12 @@ use Rattle.auction.specs.Withdraw.{withdrawOf}
 
 -- ---- A line's form
 
--- What a line says: "`K`, kettles, p, q", "`A`, kettle, worth, kettle, worth and so on, or `W`, kettle"; or that it is not of the form
+-- What a line says: "`K`, kettles, p, q", "`A`, kettle, worth, kettle, worth and so on, or `W`, kettle", where "`W` lines may carry several" (document 02,
+-- R-3); or that it is not of the form
 pub data Command : Type 0 where
   opens : ℕ → ℕ → ℕ → Command
   arrives : List Edge → Command
-  withdraws : ℕ → Command
+  withdraws : List ℕ → Command
   malformed : Command
 
 -- The first n pairs of numbers
@@ -37,13 +38,14 @@ unfoldable pub pairsOf : List ℕ → ℕ → List Edge
 pairsOf numbers zero = []
 pairsOf numbers (suc n) = pairsOf numbers n ++ (edge (getD numbers (2 * n) 0) (getD numbers (2 * n + 1) 0) ∷ [])
 
--- A line has a letter (0 where it is no line), a count of numbers, and the first of these. Of an arrival's edges the first 65 decide all
--- (EnoughEdges), so that it is carried out as with all its pairs (ReplayLaws says so: LineEdges)
+-- A line has a letter (0 where it is no line), a count of numbers, and the first of these. Of an arrival's edges, and of a withdrawal's items, the first
+-- 65 decide all (EnoughEdges, EnoughItems), so that it is carried out as with all of them (ReplayLaws says so: LineEdges, LineItems). "an empty list ..
+-- is badly formed as a line"
 unfoldable pub commandOf : Line → Command
 commandOf l =
     cond (eqb (l .letter) 75 && eqb (l .count) 3) (opens (getD (l .numbers) 0 0) (getD (l .numbers) 1 0) (getD (l .numbers) 2 0))
     (cond (eqb (l .letter) 65 && eqb (l .count % 2) 0) (arrives (pairsOf (l .numbers) (min (l .count / 2) maxEdges)))
-    (cond (eqb (l .letter) 87 && eqb (l .count) 1) (withdraws (getD (l .numbers) 0 0)) malformed))
+    (cond (eqb (l .letter) 87 && ltb 0 (l .count)) (withdraws (take (min (l .count) maxEdges) (l .numbers))) malformed))
 
 -- ---- Lines carried out. n is the number of the line, bids are those made so far
 
@@ -75,7 +77,7 @@ afterWithdrawal next n bids (done a) = afterWithdrawn next n (a .auction) bids (
 unfoldable pub carryOut : (Auction → ℕ → Outcome Replayed) → ℕ → Auction → ℕ → Command → Outcome Replayed
 carryOut next n b bids (opens k p q) = stopped b bids (Refusal.Line n) n
 carryOut next n b bids (arrives edges) = afterArrival next n bids (arriveOf b edges)
-carryOut next n b bids (withdraws item) = afterWithdrawal next n bids (withdrawOf b item)
+carryOut next n b bids (withdraws items) = afterWithdrawal next n bids (withdrawOf b items)
 carryOut next n b bids malformed = stopped b bids (Refusal.Line n) n
 
 -- The lines from a position on, of which the first is line n; fewer than fuel of them
@@ -94,7 +96,7 @@ afterOpened s at b (Opened.Refused r) = stopped b 0 r 1
 unfoldable pub firstLine : List ℕ → ℕ → Command → Outcome Replayed
 firstLine s at (opens k p q) = afterOpened s at (openOf k p q .auction) (openOf k p q .answer)
 firstLine s at (arrives edges) = stopped (opened 0 0 0) 0 (Refusal.Line 1) 1
-firstLine s at (withdraws item) = stopped (opened 0 0 0) 0 (Refusal.Line 1) 1
+firstLine s at (withdraws items) = stopped (opened 0 0 0) 0 (Refusal.Line 1) 1
 firstLine s at malformed = stopped (opened 0 0 0) 0 (Refusal.Line 1) 1
 
 -- "15 comes before all else"

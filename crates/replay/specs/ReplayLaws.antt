@@ -1,7 +1,7 @@
--- Statements about the replay: it ends, a text that is finished is a history, and a line's pairs are all its edges.
+-- Statements about the replay: it ends, a text that is finished is a history, and a line's numbers are all its edges or items.
 use mathlib.Core.Path.{_≡_}
 use mathlib.Core.List.{List}
-use Prim.Native.Nat.{ℕ, suc, _/_, _%_}
+use Prim.Native.Nat.{ℕ, suc, _/_, _%_, _<_}
 use lib.ListN.{length, getD}
 use Rattle.text.specs.Line.{lineAt}
 use Rattle.text.specs.Form.{LineForm}
@@ -12,7 +12,7 @@ use Rattle.refusals.specs.declared.Refusal.{Refusal}
 use Rattle.refusals.specs.Told.{served}
 use Rattle.bidding.specs.Rule.{Outcome, done}
 use Rattle.auction.specs.Histories.{Reached}
-use Rattle.replay.specs.Replay.{arrives, pairsOf, commandOf, carryOut, replayOf}
+use Rattle.replay.specs.Replay.{arrives, withdraws, pairsOf, commandOf, carryOut, replayOf}
 use Rattle.replay.specs.TextDemand1.{Lines, LineRefused, TextFinished, ReplayAnswers}
 
 -- How far a replay came
@@ -53,3 +53,10 @@ LineEdges =
     (s : List ℕ) (at : ℕ) (ns : List ℕ) (next : ℕ) → LineForm s at ns next → getD s at 0 ≡ 65 → length ns % 2 ≡ 0 →
     (rest : Auction → ℕ → Outcome Replayed) (n : ℕ) (b : Auction) (bids : ℕ) →
     carryOut rest n b bids (commandOf (lineAt s at)) ≡ carryOut rest n b bids (arrives (pairsOf ns (length ns / 2)))
+
+-- "`W` lines may carry several": the same of a withdrawal with all its numbers
+abbrev pub LineItems : Type 0
+LineItems =
+    (s : List ℕ) (at : ℕ) (ns : List ℕ) (next : ℕ) → LineForm s at ns next → getD s at 0 ≡ 87 → 0 < length ns →
+    (rest : Auction → ℕ → Outcome Replayed) (n : ℕ) (b : Auction) (bids : ℕ) →
+    carryOut rest n b bids (commandOf (lineAt s at)) ≡ carryOut rest n b bids (withdraws ns)

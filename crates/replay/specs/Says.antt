@@ -24,8 +24,8 @@ pub data Says (s : List ℕ) (at : ℕ) : Command → ℕ → Type 0 where
   opening : {k p q next : ℕ} → getD s at 0 ≡ 75 → LineForm s at (k ∷ (p ∷ (q ∷ []))) next → Says s at (opens k p q) next
   -- "`A`, kettle, worth, kettle, worth and so on"; "A lone `A` is an empty arrival"
   arrival : {ns : List ℕ} {edges : List Edge} {next : ℕ} → getD s at 0 ≡ 65 → LineForm s at ns next → Pairs ns edges → Says s at (arrives edges) next
-  -- "`W`, kettle"
-  withdrawal : {k next : ℕ} → getD s at 0 ≡ 87 → LineForm s at (k ∷ []) next → Says s at (withdraws k) next
+  -- "`W`, kettle"; "`W` lines may carry several", and one at least
+  withdrawal : {k next : ℕ} {ns : List ℕ} → getD s at 0 ≡ 87 → LineForm s at (k ∷ ns) next → Says s at (withdraws (k ∷ ns)) next
 
 -- It says one thing
 abbrev pub SaysOnce : Type 0

@@ -29,8 +29,8 @@ pub data Lines (s : List ℕ) : ℕ → ℕ → Auction → ℕ → ℕ → Type
   -- "then any number of `A` .. or `W`"
   arrived : {n at next e m k : ℕ} {b c : Auction} {edges : List Edge} → Lines s n at b e m →
       Says s at (arrives edges) next → ArriveAnswers b edges c (served k) → Lines s (suc n) next c (e + length edges) (m + k)
-  withdrew : {n at next e m k item : ℕ} {b c : Auction} → Lines s n at b e m →
-      Says s at (withdraws item) next → WithdrawAnswers b item c (served k) → Lines s (suc n) next c e (m + k)
+  withdrew : {n at next e m k : ℕ} {b c : Auction} {items : List ℕ} → Lines s n at b e m →
+      Says s at (withdraws items) next → WithdrawAnswers b items c (served k) → Lines s (suc n) next c e (m + k)
 
 -- A line is refused, after the lines before it were carried out: its number, the board and the bids of those lines, and the refusal. "A line's form
 -- (14) is tested before its meaning"
@@ -41,13 +41,13 @@ pub data LineRefused (s : List ℕ) : ℕ → Auction → ℕ → Refusal → Ty
   opening : {k p q next : ℕ} {r : Refusal} → Says s 0 (opens k p q) next → OpenAnswers k p q (opened 0 0 0) (refused r) → LineRefused s 1 (opened 0 0 0) 0 r
   -- A later line is not of the form. A further `K` is not
   malformed : {n at e m : ℕ} {b : Auction} → Lines s n at b e m → at < length s →
-      ((edges : List Edge) (next : ℕ) → Says s at (arrives edges) next → ⊥) → ((item next : ℕ) → Says s at (withdraws item) next → ⊥) →
+      ((edges : List Edge) (next : ℕ) → Says s at (arrives edges) next → ⊥) → ((items : List ℕ) (next : ℕ) → Says s at (withdraws items) next → ⊥) →
       LineRefused s (suc n) b m (Refusal.Line (suc n))
   -- It is, and its call refuses
   arrival : {n at next e m : ℕ} {b : Auction} {edges : List Edge} {r : Refusal} → Lines s n at b e m →
       Says s at (arrives edges) next → ArriveAnswers b edges b (refused r) → LineRefused s (suc n) b m r
-  withdrawal : {n at next e m item : ℕ} {b : Auction} {r : Refusal} → Lines s n at b e m →
-      Says s at (withdraws item) next → WithdrawAnswers b item b (refused r) → LineRefused s (suc n) b m r
+  withdrawal : {n at next e m : ℕ} {b : Auction} {items : List ℕ} {r : Refusal} → Lines s n at b e m →
+      Says s at (withdraws items) next → WithdrawAnswers b items b (refused r) → LineRefused s (suc n) b m r
 
 -- A text is refused: at a line, or as a whole. "15 comes before all else"
 pub data TextRefused (s : List ℕ) : ℕ → Auction → ℕ → Refusal → Type 0 where

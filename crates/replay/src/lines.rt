@@ -3,6 +3,7 @@ use crate::Ending;
 use auction::arrive::Arrived;
 use auction::arrive::arrive_in;
 use auction::edges::EdgeBuffer;
+use auction::edges::enough;
 use auction::withdraw::Withdrawn;
 use auction::withdraw::withdraw_in;
 use board::record::Auction;
@@ -94,20 +95,20 @@ fn carry_arrival(
     }
 }
 
-// Line n is a withdrawal: carried out, or refused there.
+// Line n is a withdrawal of some of its numbers: carried out, or refused there.
 fn carry_withdrawal(
     market: Market,
     weights: &[u32; Auction::MAX_CELLS],
     state: State,
     bids: u64,
-    item: u64,
+    items: &[u64],
     n: u64,
 ) -> Progress
     requires { ⌜ ReachedBy (auction market (now weights) state) bids ⌝ }
     ensures { λ r. ⌜ done (replayed (auction (r .market) (now (weights .entry)) (r .state)) (r .bids) (r .answer)) ≡
-        afterWithdrawal finished n bids (withdrawOf (auction market (now (weights .entry)) state) item) ⌝ }
+        afterWithdrawal finished n bids (withdrawOf (auction market (now (weights .entry)) state) (now (items .entry))) ⌝ }
 {
-    let end = withdraw_in(market, weights, state, item);
+    let end = withdraw_in(market, weights, state, items);
     let after = end.market;
     let settled = end.state;
     let answer = end.answer;
@@ -144,8 +145,10 @@ pub(crate) fn carry_out(
         let edges = edges_of(&line.numbers, line.count);
         return carry_arrival(market, weights, state, bids, edges, n);
     }
-    if is_record(line.letter, b'W', line.count == 1) {
-        return carry_withdrawal(market, weights, state, bids, line.numbers[0], n);
+    if is_record(line.letter, b'W', 0 < line.count) {
+        let numbers: &[u64] = &line.numbers;
+        let items = &numbers[0..enough(line.count)];
+        return carry_withdrawal(market, weights, state, bids, items, n);
     }
     Progress {
         market,

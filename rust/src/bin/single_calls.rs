@@ -20,6 +20,23 @@ fn full_board() -> Auction {
     board
 }
 
+/// A withdrawal, refused or of one item or of half of them: each by a symbol of its own.
+#[inline(never)]
+fn withdraw_refused(board: Auction) -> Answer {
+    withdraw(board, &[0])
+}
+
+#[inline(never)]
+fn withdraw_one(board: Auction) -> Answer {
+    withdraw(board, &[32])
+}
+
+#[inline(never)]
+fn withdraw_half(board: Auction) -> Answer {
+    let items: Vec<u64> = (1..=32).collect();
+    withdraw(board, &items)
+}
+
 fn main() {
     let board = full_board();
     let mut plan = [0; MAX_BIDDERS];
@@ -28,7 +45,9 @@ fn main() {
     println!("arrived {}", board.arrived);
     println!("sound {}", is_sound(black_box(board)));
     println!("read out {}", read_out(black_box(board), &mut plan, &mut prices, &mut gains).number);
-    println!("withdraw item 0 {}", withdraw(black_box(board), 0).number);
+    println!("withdraw item 0 {}", withdraw_refused(black_box(board)).number);
+    println!("withdraw item 32, bids {}", withdraw_one(black_box(board)).value);
+    println!("withdraw items 1 to 32, bids {}", withdraw_half(black_box(board)).value);
     // By another symbol than the arrivals above, so that it is counted by itself.
     let none = EdgeBuffer::new(&[]);
     println!("arrive without edges {}", arrive_buffer(black_box(board), none).number);

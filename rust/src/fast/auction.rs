@@ -98,16 +98,36 @@ impl Auction {
         Ok(index)
     }
 
-    pub fn withdraw(&mut self, item: u32) -> Result<u64, u32> {
-        let item = self.live(item)?;
+    /// All of these items leave, then their holders bid in the order of their
+    /// numbers; the number of bids.
+    pub fn withdraw(&mut self, items: &[u32]) -> Result<u64, u32> {
+        let mut before = 0;
+        for &item in items {
+            self.live(item)?;
+            if item <= before {
+                return Err(7);
+            }
+            before = item;
+        }
+        let mut displaced = items.iter().fold(0, |set, &item| set | self.remove(item as usize - 1));
+        let mut bids = 0;
+        while displaced != 0 {
+            bids += self.settle(displaced.trailing_zeros() as usize);
+            displaced &= displaced - 1;
+        }
+        Ok(bids)
+    }
+
+    /// The item leaves; the bit of the bidder that held it, if any.
+    fn remove(&mut self, item: usize) -> u128 {
         self.withdrawn[item] = true;
         self.price[item] = 0;
         let holder = std::mem::replace(&mut self.holder[item], FREE);
         if holder == FREE {
-            return Ok(0);
+            return 0;
         }
         self.gain[holder as usize] = 0;
-        Ok(self.settle(holder as usize))
+        1 << holder
     }
 
     /// The chain of bids that starts with this bidder.

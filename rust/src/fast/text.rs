@@ -83,7 +83,7 @@ fn replay(reader: &mut Reader) -> Result<(Box<Auction>, u64), Number> {
     while reader.at < reader.text.len() {
         bids += match (reader.record(&mut numbers), numbers.as_slice()) {
             (Some(b'A'), pairs) if pairs.len() % 2 == 0 => auction.arrive(pairs)?,
-            (Some(b'W'), &[item]) => auction.withdraw(item)?,
+            (Some(b'W'), items) if !items.is_empty() => auction.withdraw(items)?,
             _ => return Err(14),
         };
     }

@@ -1,12 +1,16 @@
 //! Random histories: an opening and the calls after it.
 
+use super::items::rising;
 use crate::model::auction::*;
+use crate::model::refusal::Refusal;
 use crate::rng::Rng;
+
+mod bad;
 
 #[derive(Clone, Debug)]
 pub enum Call {
     Arrive(Vec<Edge>),
-    Withdraw(u64),
+    Withdraw(Vec<u64>),
 }
 
 #[derive(Clone, Debug)]
@@ -14,6 +18,27 @@ pub struct History {
     pub items: u64,
     pub slack: Slack,
     pub calls: Vec<Call>,
+}
+
+impl History {
+    /// The auction that the calls come to. All are served.
+    pub fn auction(&self) -> Auction {
+        let mut auction = Auction::open(self.items, self.slack).expect("it opens");
+        for call in &self.calls {
+            call.carry_out(&mut auction).expect("a good call");
+        }
+        auction
+    }
+}
+
+impl Call {
+    /// The call's bids.
+    pub fn carry_out(&self, auction: &mut Auction) -> Result<u64, Refusal> {
+        match self {
+            Call::Arrive(edges) => auction.arrive(edges),
+            Call::Withdraw(items) => auction.withdraw(items),
+        }
+    }
 }
 
 /// In every kind but `Refused` each call is served.
@@ -27,10 +52,11 @@ pub enum Kind {
     Withdrawals,
     Refused,
     EqualUtility,
+    Lists,
 }
 
 impl Kind {
-    pub const ALL: [Kind; 8] = [
+    pub const ALL: [Kind; 9] = [
         Kind::Small,
         Kind::Sparse,
         Kind::Dense,
@@ -39,6 +65,7 @@ impl Kind {
         Kind::Withdrawals,
         Kind::Refused,
         Kind::EqualUtility,
+        Kind::Lists,
     ];
 }
 
@@ -53,6 +80,8 @@ struct Shape {
     /// Withdrawals and bad calls, of 100 calls.
     withdrawals: u64,
     refused: u64,
+    /// Items that leave at once.
+    most_items: u64,
 }
 
 #[derive(Clone, Copy)]
@@ -73,6 +102,7 @@ pub fn history(rng: &mut Rng, kind: Kind) -> History {
         Kind::Withdrawals => shaped(rng, withdrawals),
         Kind::Refused => shaped(rng, refused),
         Kind::EqualUtility => equal_utility(rng),
+        Kind::Lists => shaped(rng, lists),
     }
 }
 
@@ -83,12 +113,11 @@ fn shaped(rng: &mut Rng, shape: fn(&mut Rng) -> Shape) -> History {
     let mut calls = Vec::new();
     for _ in 0..shape.calls {
         if rng.chance(shape.refused, 100) {
-            calls.push(bad_call(rng, &shape, &withdrawn));
+            calls.push(bad::call(rng, &shape, &withdrawn));
         } else if rng.chance(shape.withdrawals, 100) {
-            if let Some(item) = one_of(rng, &live_items(&withdrawn)) {
-                withdrawn[item as usize - 1] = true;
-                calls.push(Call::Withdraw(item));
-            }
+            let items = leaving(rng, &live_items(&withdrawn), shape.most_items);
+            items.iter().for_each(|&item| withdrawn[item as usize - 1] = true);
+            calls.extend((!items.is_empty()).then_some(Call::Withdraw(items)));
         } else if arrived < MAX_BIDDERS || shape.refused > 0 {
             arrived += 1;
             calls.push(Call::Arrive(edges(rng, &shape, &withdrawn)));
@@ -106,6 +135,7 @@ fn small(rng: &mut Rng) -> Shape {
         weights: Weights::UpTo(20),
         withdrawals: 15,
         refused: 0,
+        most_items: 3,
     }
 }
 
@@ -116,6 +146,7 @@ fn sparse(rng: &mut Rng) -> Shape {
         calls: rng.range(1, 100),
         weights: Weights::UpTo(1_000),
         withdrawals: 5,
+        most_items: 6,
         ..small(rng)
     }
 }
@@ -129,6 +160,7 @@ fn dense(rng: &mut Rng) -> Shape {
         weights: Weights::UpTo(9_999),
         withdrawals: 3,
         refused: 0,
+        most_items: 4,
     }
 }
 
@@ -141,6 +173,7 @@ fn ties(rng: &mut Rng) -> Shape {
         weights: Weights::Among(&[5, 10, 10, 20]),
         withdrawals: 10,
         refused: 0,
+        most_items: 3,
     }
 }
 
@@ -151,8 +184,24 @@ fn withdrawals(rng: &mut Rng) -> Shape {
         calls: rng.range(10, 80),
         most_edges: 12,
         weights: Weights::UpTo(300),
-        withdrawals: 45,
+        withdrawals: 40,
         refused: 0,
+        most_items: 2,
+    }
+}
+
+/// More bidders than items, so that several items that leave displace several bidders,
+/// and these displace others.
+fn lists(rng: &mut Rng) -> Shape {
+    Shape {
+        items: rng.range(4, 16),
+        slack: Slack { p: 1, q: rng.pick(&[3, 10, 30]) },
+        calls: rng.range(12, 50),
+        most_edges: 9,
+        weights: Weights::Among(&[30, 40, 47, 50, 53, 60]),
+        withdrawals: 12,
+        refused: 0,
+        most_items: 6,
     }
 }
 
@@ -177,6 +226,7 @@ fn limits(rng: &mut Rng) -> Shape {
         weights: Weights::Ends,
         withdrawals: rng.pick(&[0, 3]),
         refused: 0,
+        most_items: rng.pick(&[1, 3, 64]),
     }
 }
 
@@ -188,6 +238,12 @@ fn slack_to(rng: &mut Rng, most: u64) -> Slack {
 
 fn one_of(rng: &mut Rng, items: &[u64]) -> Option<u64> {
     (!items.is_empty()).then(|| rng.pick(items))
+}
+
+/// Items that leave at once: one, or up to so many.
+fn leaving(rng: &mut Rng, live: &[u64], most: u64) -> Vec<u64> {
+    let count = if rng.chance(1, 3) { 1 } else { rng.range(1, most) };
+    rising(rng, live, count as usize)
 }
 
 fn live_items(withdrawn: &[bool]) -> Vec<u64> {
@@ -225,15 +281,11 @@ fn equal_utility(rng: &mut Rng) -> History {
         let withdrawn: Vec<bool> = auction.items.iter().map(|item| item.withdrawn).collect();
         let live = live_items(&withdrawn);
         let call = match one_of(rng, &live) {
-            Some(item) if rng.chance(12, 100) => Call::Withdraw(item),
+            Some(_) if rng.chance(10, 100) => Call::Withdraw(leaving(rng, &live, 2)),
             Some(item) => Call::Arrive(meeting(rng, &auction, &live, item)),
             None => Call::Arrive(Vec::new()),
         };
-        match &call {
-            Call::Arrive(edges) => auction.arrive(edges),
-            Call::Withdraw(item) => auction.withdraw(*item),
-        }
-        .expect("a good call");
+        call.carry_out(&mut auction).expect("a good call");
         calls.push(call);
     }
     History { items, slack, calls }
@@ -255,48 +307,6 @@ fn meeting(rng: &mut Rng, auction: &Auction, live: &[u64], met: u64) -> Vec<Edge
         }
     }
     edges
-}
-
-const STRANGE: [u64; 10] = [0, 65, 66, 127, 255, 256, 65_536, 1 << 32, 1 << 63, u64::MAX];
-const BAD_WEIGHTS: [u64; 5] = [0, 1_000_001, 9_999_999, 1 << 32, u64::MAX];
-
-/// A call that is refused, but for an arrival without edges.
-fn bad_call(rng: &mut Rng, shape: &Shape, withdrawn: &[bool]) -> Call {
-    let any = rng.range(0, shape.items + 1);
-    let gone = (1..=shape.items).filter(|&i| withdrawn[i as usize - 1]).collect::<Vec<u64>>();
-    let bad_item = match rng.below(3) {
-        0 => rng.pick(&STRANGE),
-        1 => rng.pick(&[0, shape.items + 1]),
-        _ => one_of(rng, &gone).unwrap_or(any),
-    };
-    if rng.chance(1, 4) {
-        return Call::Withdraw(bad_item);
-    }
-    let mut list = edges(rng, shape, withdrawn);
-    for _ in 0..rng.range(1, 2) {
-        spoil_edges(rng, &mut list, bad_item);
-    }
-    Call::Arrive(list)
-}
-
-fn spoil_edges(rng: &mut Rng, list: &mut Vec<Edge>, bad_item: u64) {
-    match rng.below(5) {
-        0 => {
-            let at = rng.index(list.len() + 1);
-            list.insert(at, Edge { item: bad_item, weight: rng.pick(&[0, 1, 5]) });
-        }
-        1 => list.push(Edge { item: 1, weight: 1 }),
-        2 if !list.is_empty() => {
-            let again = rng.pick(list);
-            list.push(again);
-        }
-        3 if !list.is_empty() => list.reverse(),
-        _ if !list.is_empty() => {
-            let at = rng.index(list.len());
-            list[at].weight = rng.pick(&BAD_WEIGHTS);
-        }
-        _ => list.extend((0..70).map(|i| Edge { item: i + 1, weight: 1 })),
-    }
 }
 
 /// The deepest alternating path: `items` bidders, the last of whom moves every

@@ -70,7 +70,7 @@ pub fn board(rng: &mut Rng, mut sheet: Sheet, items: u64, withdrawals: u64) -> R
         auction.arrive(&edges(row)).expect("a row is a list of edges");
     }
     for _ in 0..withdrawals {
-        auction.withdraw(rng.range(1, items)).ok();
+        auction.withdraw(&[rng.range(1, items)]).ok();
     }
     to_record(&auction)
 }

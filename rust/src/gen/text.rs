@@ -2,6 +2,7 @@
 
 use super::history::{Call, History};
 use crate::rng::Rng;
+use std::ops::Range;
 
 /// The text that tells this history.
 pub fn write(history: &History) -> Vec<u8> {
@@ -14,7 +15,10 @@ pub fn write(history: &History) -> Vec<u8> {
                     out.push_str(&format!("\t{}\t{}", edge.item, edge.weight));
                 }
             }
-            Call::Withdraw(item) => out.push_str(&format!("W\t{item}")),
+            Call::Withdraw(items) => {
+                out.push('W');
+                items.iter().for_each(|item| out.push_str(&format!("\t{item}")));
+            }
         }
         out.push('\n');
     }
@@ -73,6 +77,7 @@ pub fn random(rng: &mut Rng) -> Vec<u8> {
         let letter = rng.pick(b"AAAAAAAAAAAAAAWWWWWWKP\t\n");
         let fields = match letter {
             b'A' => 2 * rng.below(4) + rng.chance(1, 30) as u64,
+            b'W' => rng.pick(&[1, 1, 1, 1, 1, 1, 1, 1, 2, 2, 2, 3, 3, 0]),
             _ => rng.pick(&[1, 1, 1, 1, 1, 1, 0, 2, 3]),
         };
         out.push(letter);
@@ -96,11 +101,12 @@ fn random_field(rng: &mut Rng, out: &mut Vec<u8>) {
 pub fn mutate(rng: &mut Rng, text: &[u8]) -> Vec<u8> {
     let mut out = text.to_vec();
     for _ in 0..rng.range(1, 4) {
-        match rng.below(10) {
+        match rng.below(11) {
             0..=4 => change_byte(rng, &mut out),
             5 | 6 => change_number(rng, &mut out),
             7 => change_lines(rng, &mut out),
-            8 => out.truncate(rng.index(out.len() + 1)),
+            8 => add_number(rng, &mut out),
+            9 => out.truncate(rng.index(out.len() + 1)),
             _ => out.extend_from_slice(&[rng.pick(BYTES)]),
         }
     }
@@ -125,16 +131,32 @@ fn change_byte(rng: &mut Rng, text: &mut Vec<u8>) {
     }
 }
 
-/// Another number in the place of one that stands there.
-fn change_number(rng: &mut Rng, text: &mut Vec<u8>) {
+/// Where a number of the text stands, if it has one.
+fn a_number(rng: &mut Rng, text: &[u8]) -> Option<Range<usize>> {
     let starts: Vec<usize> =
         (1..text.len()).filter(|&i| text[i - 1] == b'\t' && text[i].is_ascii_digit()).collect();
     if starts.is_empty() {
-        return;
+        return None;
     }
     let start = rng.pick(&starts);
     let digits = text[start..].iter().take_while(|b| b.is_ascii_digit()).count();
-    text.splice(start..start + digits, rng.pick(&NUMBERS).bytes());
+    Some(start..start + digits)
+}
+
+/// Another number in the place of one that stands there.
+fn change_number(rng: &mut Rng, text: &mut Vec<u8>) {
+    if let Some(there) = a_number(rng, text) {
+        text.splice(there, rng.pick(&NUMBERS).bytes());
+    }
+}
+
+/// A number more: one that stands there twice, or any before it.
+fn add_number(rng: &mut Rng, text: &mut Vec<u8>) {
+    if let Some(there) = a_number(rng, text) {
+        let again = text[there.clone()].to_vec();
+        let more = if rng.chance(1, 2) { again } else { rng.pick(&NUMBERS).into() };
+        text.splice(there.start..there.start, [&more[..], b"\t"].concat());
+    }
 }
 
 /// A line left out, doubled, or moved to the end.

@@ -3,6 +3,7 @@
 
 use super::refusal::*;
 use std::cmp::Reverse;
+use std::collections::BTreeSet;
 
 pub const MAX_ITEMS: usize = 64;
 pub const MAX_BIDDERS: usize = 128;
@@ -98,22 +99,34 @@ impl Auction {
         Ok(())
     }
 
-    /// The item leaves; its holder bids again. The answer is the number of bids.
-    pub fn withdraw(&mut self, item: u64) -> Result<u64, Refusal> {
+    /// "All go first; then the displaced batches bid in number order, each chain run
+    /// to its end" (document 02, R-3). The answer is the number of bids.
+    pub fn withdraw(&mut self, items: &[u64]) -> Result<u64, Refusal> {
+        for (index, &item) in items.iter().enumerate() {
+            let before = if index == 0 { 0 } else { items[index - 1] };
+            self.dismiss(item, before, index as u64 + 1)?;
+        }
+        let holders: BTreeSet<usize> = items.iter().filter_map(|&i| self.holder(i)).collect();
+        holders.iter().for_each(|&bidder| self.displace(bidder));
+        for &item in items {
+            self.items[item as usize - 1] = Item { price: 0, withdrawn: true };
+        }
+        Ok(holders.into_iter().map(|bidder| self.settle(bidder)).sum())
+    }
+
+    /// "kettle by kettle 4, 5, 7, nothing withdrawn if any fails; 5 is read from the
+    /// board handed in, so a live kettle named twice is 7".
+    fn dismiss(&self, item: u64, before: u64, place: u64) -> Result<(), Refusal> {
         if !self.knows(item) {
-            return refuse(UNKNOWN, 0);
+            return refuse(UNKNOWN, place);
         }
         if self.item(item).withdrawn {
-            return refuse(GONE, 0);
+            return refuse(GONE, place);
         }
-        self.items[item as usize - 1] = Item { price: 0, withdrawn: true };
-        match self.holder(item) {
-            Some(bidder) => {
-                self.displace(bidder);
-                Ok(self.settle(bidder))
-            }
-            None => Ok(0),
+        if item <= before {
+            return refuse(ORDER, place);
         }
+        Ok(())
     }
 
     /// Matching, prices and gains; cells past them keep what they held.

@@ -19,9 +19,9 @@ pub fn arrive_record(record: &mut Record, edges: &[Edge]) -> Result<u64, Refusal
     Ok(bids)
 }
 
-pub fn withdraw_record(record: &mut Record, item: u64) -> Result<u64, Refusal> {
+pub fn withdraw_record(record: &mut Record, items: &[u64]) -> Result<u64, Refusal> {
     let mut auction = from_record(record)?;
-    let bids = auction.withdraw(item)?;
+    let bids = auction.withdraw(items)?;
     *record = to_record(&auction);
     Ok(bids)
 }

@@ -11,7 +11,7 @@ pub const MAX_DIGITS: usize = 7;
 enum Line {
     Open(u64, Slack),
     Arrive(Vec<Edge>),
-    Withdraw(u64),
+    Withdraw(Vec<u64>),
 }
 
 /// What the program prints for this text.
@@ -86,19 +86,20 @@ fn opening(line: &[u8]) -> Result<Auction, Refusal> {
 fn carry_out(auction: &mut Auction, line: &[u8]) -> Result<u64, Refusal> {
     match parse(line) {
         Some(Line::Arrive(edges)) => auction.arrive(&edges),
-        Some(Line::Withdraw(item)) => auction.withdraw(item),
+        Some(Line::Withdraw(items)) => auction.withdraw(&items),
         _ => refuse(LINE, 0),
     }
 }
 
-/// A line with its byte 10, if it has the form of one of the three records.
+/// A line with its byte 10, if it has the form of one of the three records. A list of no
+/// items "is badly formed as a line" (document 02, R-3).
 fn parse(line: &[u8]) -> Option<Line> {
     let mut fields = line.strip_suffix(b"\n")?.split(|&b| b == b'\t');
     let letter = fields.next()?;
     let numbers = fields.map(number).collect::<Option<Vec<u64>>>()?;
     match (letter, numbers.as_slice()) {
         (b"K", &[items, p, q]) => Some(Line::Open(items, Slack { p, q })),
-        (b"W", &[item]) => Some(Line::Withdraw(item)),
+        (b"W", items) if !items.is_empty() => Some(Line::Withdraw(items.to_vec())),
         (b"A", pairs) if pairs.len() % 2 == 0 => {
             let edge = |pair: &[u64]| Edge { item: pair[0], weight: pair[1] };
             Some(Line::Arrive(pairs.chunks(2).map(edge).collect()))

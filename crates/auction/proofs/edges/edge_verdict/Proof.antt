@@ -1,12 +1,34 @@
 -- `edges::edge_verdict` meets its contract: the first check that is met is what it returns.
-use mathlib.Core.Path.{sym, _∙_}
+use mathlib.Core.Path.{_≡_, sym, _∙_}
+use mathlib.Core.Bool.{true}
+use borrow.Author.Needs.{needs}
 use borrow.Author.Tests.{not-true, not-false}
 use Rattle.duality.specs.Lists.{cells}
+use Rattle.board.specs.Limits.{maxWeight}
+use Rattle.board.specs.Ranges.{withinTest}
 use Rattle.board.proofs.Tests.{within-decides, flag-on, flag-off}
 use Rattle.auction.proofs.EdgeVerdicts as verdict
-use borrow.Author.Needs.{needs}
 use Rattle.auction.proofs.edges.edge_verdict.Statement.{statement}
 use Rattle.auction.proofs.edges.edge_verdict.Tie as tie
+
+-- ---- The way back, and what is known of an edge whose item is on the board, and whose weight is within its limits
+
+abbrev start : tie.After-is-within → tie.Start
+start c = c .before .before
+
+known : (c : tie.Else1) → let a = start (c .before) .args in withinTest (a .known) (cells (a .items .now) (a .i)) ≡ true
+known c = sym (c .before .is-within .ensures) ∙ not-false _ (c .if1 .left)
+
+abbrev here : tie.After-is-within2 → tie.Else2
+here c = c .before .before
+
+abbrev first : tie.Else2 → tie.Else1
+first c = c .before .before
+
+weighed : (c : tie.Else3) → let a = start (first (here (c .before)) .before) .args in withinTest maxWeight (cells (a .weights .now) (a .i)) ≡ true
+weighed c = sym (c .before .is-within2 .ensures) ∙ not-false _ (c .if3 .left)
+
+-- ---- The needs
 
 add-place : tie.Need-add-place
 add-place c = search needs
@@ -21,16 +43,16 @@ is-within-requires : tie.Need-is-within-requires
 is-within-requires c κs = search needs
 
 returns : tie.Need-returns
-returns c = verdict.unknown ((c .before .before .before .args .known)) (c .before .before .before .args .withdrawn .now) (cells (c .before .before .before .args .items .now)) (cells (c .before .before .before .args .weights .now)) (c .before .before .before .args .i) (sym (c .before .is-within .ensures) ∙ not-true _ (c .if1 .taken))
+returns c = verdict.unknown _ _ _ _ _ (sym (c .before .is-within .ensures) ∙ not-true _ (c .if1 .taken))
 
 sub-k : tie.Need-sub-k
-sub-k c = let h = within-decides _ _ .sound (sym (c .before .is-within .ensures) ∙ not-false _ (c .if1 .left)) in search needs
+sub-k c = let h = within-decides _ _ .sound (known c) in search needs
 
 element-copy-out-if2 : tie.Need-element-copy-out-if2
-element-copy-out-if2 c = let h = within-decides _ _ .sound (sym (c .before .is-within .ensures) ∙ not-false _ (c .if1 .left)) in search needs
+element-copy-out-if2 c = let h = within-decides _ _ .sound (known c) in search needs
 
 returns-2 : tie.Need-returns-2
-returns-2 c = verdict.gone ((c .before .before .before .before .before .args .known)) (c .before .before .before .before .before .args .withdrawn .now) (cells (c .before .before .before .before .before .args .items .now)) (cells (c .before .before .before .before .before .args .weights .now)) (c .before .before .before .before .before .args .i) (sym (c .before .before .before .is-within .ensures) ∙ not-false _ (c .before .before .if1 .left)) (flag-on _ (c .if2 .taken))
+returns-2 c = verdict.gone _ _ _ _ _ (known (c .before .before)) (flag-on _ (c .if2 .taken))
 
 mul-is-within : tie.Need-mul-is-within
 mul-is-within c = search needs
@@ -42,16 +64,24 @@ is-within-requires-2 : tie.Need-is-within-requires-2
 is-within-requires-2 c κs = search needs
 
 returns-3 : tie.Need-returns-3
-returns-3 c = verdict.worth ((c .before .before .before .before .before .before .before .before .args .known)) (c .before .before .before .before .before .before .before .before .args .withdrawn .now) (cells (c .before .before .before .before .before .before .before .before .args .items .now)) (cells (c .before .before .before .before .before .before .before .before .args .weights .now)) (c .before .before .before .before .before .before .before .before .args .i) (sym (c .before .before .before .before .before .before .is-within .ensures) ∙ not-false _ (c .before .before .before .before .before .if1 .left)) (flag-off _ (c .before .before .before .if2 .left)) (sym (c .before .is-within2 .ensures) ∙ not-true _ (c .if3 .taken))
+returns-3 c =
+    let on = here (c .before) in
+    verdict.worth _ _ _ _ _ (known (first on)) (flag-off _ (on .if2 .left)) (sym (c .before .is-within2 .ensures) ∙ not-true _ (c .if3 .taken))
 
 is-unordered-requires : tie.Need-is-unordered-requires
 is-unordered-requires c κs = search needs
 
 returns-4 : tie.Need-returns-4
-returns-4 c = verdict.unordered ((c .before .before .before .before .before .before .before .before .before .before .args .known)) (c .before .before .before .before .before .before .before .before .before .before .args .withdrawn .now) (cells (c .before .before .before .before .before .before .before .before .before .before .args .items .now)) (cells (c .before .before .before .before .before .before .before .before .before .before .args .weights .now)) (c .before .before .before .before .before .before .before .before .before .before .args .i) (sym (c .before .before .before .before .before .before .before .before .is-within .ensures) ∙ not-false _ (c .before .before .before .before .before .before .before .if1 .left)) (flag-off _ (c .before .before .before .before .before .if2 .left)) (sym (c .before .before .before .is-within2 .ensures) ∙ not-false _ (c .before .before .if3 .left)) (sym (c .before .is-unordered .ensures) ∙ c .if4 .taken)
+returns-4 c =
+    let w = c .before .before .before in
+    let on = here (w .before) in
+    verdict.unordered _ _ _ _ _ (known (first on)) (flag-off _ (on .if2 .left)) (weighed w) (sym (c .before .is-unordered .ensures) ∙ c .if4 .taken)
 
 returns-5 : tie.Need-returns-5
-returns-5 c = verdict.fine ((c .before .before .before .before .before .before .before .before .before .before .args .known)) (c .before .before .before .before .before .before .before .before .before .before .args .withdrawn .now) (cells (c .before .before .before .before .before .before .before .before .before .before .args .items .now)) (cells (c .before .before .before .before .before .before .before .before .before .before .args .weights .now)) (c .before .before .before .before .before .before .before .before .before .before .args .i) (sym (c .before .before .before .before .before .before .before .before .is-within .ensures) ∙ not-false _ (c .before .before .before .before .before .before .before .if1 .left)) (flag-off _ (c .before .before .before .before .before .if2 .left)) (sym (c .before .before .before .is-within2 .ensures) ∙ not-false _ (c .before .before .if3 .left)) (sym (c .before .is-unordered .ensures) ∙ c .if4 .left)
+returns-5 c =
+    let w = c .before .before .before in
+    let on = here (w .before) in
+    verdict.fine _ _ _ _ _ (known (first on)) (flag-off _ (on .if2 .left)) (weighed w) (sym (c .before .is-unordered .ensures) ∙ c .if4 .left)
 
 pub edge-verdict-spec : {M : Type 1} → statement M
 edge-verdict-spec =

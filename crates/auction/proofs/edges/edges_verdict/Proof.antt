@@ -1,24 +1,20 @@
 -- `edges::edges_verdict` meets its contract: what is left to test says the same as all.
-use mathlib.Core.Path.{_≡_, sym, _∙_}
-use Prim.Native.Nat.{_-_, _≤_}
-use native.Mathlib.Omega.{arith}
+use Prim.Native.Nat.{_-_}
 use borrow.Author.Needs.{needs}
 use Rattle.duality.specs.Lists.{cells}
-use Rattle.refusals.specs.Demand1.{firstOf}
-use Rattle.auction.specs.Edges.{edgesChecks}
-use Rattle.auction.proofs.EdgeVerdicts.{edges-start, edges-on, edges-stop, edges-end}
+use Rattle.refusals.proofs.Each.{Left, each-start, each-on, each-stop, each-end}
+use Rattle.auction.specs.Edges.{edgeChecks}
 use Rattle.auction.proofs.edges.edges_verdict.Statement.{statement}
 use Rattle.auction.proofs.edges.edges_verdict.Tie as tie
 
 abbrev Inv-loop : tie.InvT-loop
-Inv-loop items weights withdrawn known count i₀ i = (i ≤ count) ×
-    (firstOf (edgesChecks known withdrawn (cells items) (cells weights) 0 count) ≡ firstOf (edgesChecks known withdrawn (cells items) (cells weights) i (count - i)))
+Inv-loop items weights withdrawn known count i₀ i = Left (edgeChecks known withdrawn (cells items) (cells weights)) count i
 
 abbrev μ-loop : tie.MeasureT-loop
 μ-loop items weights withdrawn known count i₀ i = count - i
 
 loop-holds : tie.Need-loop-holds Inv-loop μ-loop
-loop-holds c = (search needs, edges-start _ _ _ _ _)
+loop-holds c = each-start
 
 edge-verdict-requires : tie.Need-edge-verdict-requires Inv-loop μ-loop
 edge-verdict-requires c κs = search needs
@@ -30,7 +26,9 @@ enum-told-2 : tie.Need-enum-told-2 Inv-loop μ-loop
 enum-told-2 c = search needs
 
 returns : tie.Need-returns Inv-loop μ-loop
-returns c = edges-stop _ _ _ _ _ _ (c .before .before .before .loop-test .taken) _ _ (c .before .before .edge-verdict .ensures) (c .enum-told2 .given .1) ∙ sym (c .before .before .before .before .loop .inv .1)
+returns c =
+    let tested = c .before .before in
+    each-stop (tested .before .before .loop .inv) (tested .before .loop-test .taken) (tested .edge-verdict .ensures) (c .enum-told2 .given .1)
 
 add-i : tie.Need-add-i Inv-loop μ-loop
 add-i c = search needs
@@ -39,10 +37,12 @@ loop-less : tie.Need-loop-less Inv-loop μ-loop
 loop-less c = search needs
 
 loop-again : tie.Need-loop-again Inv-loop μ-loop
-loop-again c = (omega arith, c .before .before .before .before .loop .inv .1 ∙ edges-on _ _ _ _ _ _ (c .before .before .before .loop-test .taken) _ (c .before .before .edge-verdict .ensures) (c .enum-told .given .1))
+loop-again c =
+    let tested = c .before .before in
+    each-on (tested .before .before .loop .inv) (tested .before .loop-test .taken) (tested .edge-verdict .ensures) (c .enum-told .given .1)
 
 returns-2 : tie.Need-returns-2 Inv-loop μ-loop
-returns-2 c = sym (c .before .loop .inv .1 ∙ edges-end _ _ _ _ _ _ (omega arith))
+returns-2 c = each-end (c .before .loop .inv) (c .loop-test .left)
 
 pub edges-verdict-spec : {M : Type 1} → statement M
 edges-verdict-spec =

@@ -15,14 +15,14 @@ returns c = false-is _ (order-decides _ _) (λ h. omega arith)
 mul-result : tie.Need-mul-result
 mul-result c = search needs
 
-element-copy-out-result : tie.Need-element-copy-out-result
-element-copy-out-result c = search needs
+shared-slice-read-result : tie.Need-shared-slice-read-result
+shared-slice-read-result c = search needs
 
 mul-result-2 : tie.Need-mul-result-2
 mul-result-2 c = search needs
 
-element-copy-out-result-2 : tie.Need-element-copy-out-result-2
-element-copy-out-result-2 c = search needs
+shared-slice-read-result-2 : tie.Need-shared-slice-read-result-2
+shared-slice-read-result-2 c = search needs
 
 returns-2 : tie.Need-returns-2
 returns-2 c =
@@ -36,7 +36,7 @@ is-unordered-spec =
     (tie.spec
     returns
     mul-result
-    element-copy-out-result
+    shared-slice-read-result
     mul-result-2
-    element-copy-out-result-2
+    shared-slice-read-result-2
     returns-2)

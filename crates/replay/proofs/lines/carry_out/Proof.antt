@@ -1,9 +1,14 @@
 -- `lines::carry_out` meets its contract: a line's form decides which call it is.
-use mathlib.Core.Path.{sym, ap, _∙_}
-use Rattle.replay.specs.Replay.{finished, afterArrival}
+use mathlib.Core.Path.{_≡_, sym, ap, _∙_}
+use Prim.Native.Nat.{_-_, min}
+use native.Mathlib.Omega.{arith}
+use lib.ListN.{take}
+use Rattle.board.specs.Limits.{maxEdges}
+use Rattle.replay.specs.Replay.{finished, afterArrival, afterWithdrawal}
 use Rattle.board.specs.declared.record.Auction.{Auction}
 use Rattle.board.specs.Cells.{auction}
 use Rattle.auction.specs.Arrive.{arriveOf}
+use Rattle.auction.specs.Withdraw.{withdrawOf}
 use Rattle.replay.proofs.ReplayForms.{carries-arrival, carries-withdrawal, carries-none}
 use borrow.Author.Needs.{needs}
 use Rattle.replay.proofs.lines.carry_out.Statement.{statement}
@@ -33,18 +38,31 @@ returns c =
 is-record-requires-2 : tie.Need-is-record-requires-2
 is-record-requires-2 c κs = search needs
 
-element-copy-out-carry-withdrawal : tie.Need-element-copy-out-carry-withdrawal
-element-copy-out-carry-withdrawal c = search needs
+enough-requires : tie.Need-enough-requires
+enough-requires c κs = search needs
+
+sub-items : tie.Need-sub-items
+sub-items c = search needs
+
+part-items-start : tie.Need-part-items-start
+part-items-start c = search needs
+
+part-items-end : tie.Need-part-items-end
+part-items-end c = let e = c .enough .ensures in search needs
 
 carry-withdrawal-requires : tie.Need-carry-withdrawal-requires
 carry-withdrawal-requires c κs = search needs
 
 returns-2 : tie.Need-returns-2
 returns-2 c =
-    let k = c .before .before .before in
+    let sized = c .before .before .before in
+    let k = sized .before .before .before .before in
     let s = k .before .before .before .before in
     let b = board s in
-    c .carry-withdrawal .ensures ∙ sym (carries-withdrawal (s .args .t5) finished (s .args .n) b (s .args .bids) (sym (k .before .is-record2 .ensures) ∙ k .if2 .taken))
+    let first : sized .enough .result - 0 ≡ min (s .args .t5 .count) maxEdges = omega (arith, sized .enough .ensures) in
+    c .carry-withdrawal .ensures
+    ∙ (ap (λ items. afterWithdrawal finished (s .args .n) (s .args .bids) (withdrawOf b items)) (ap (λ m. take m (s .args .t5 .numbers)) first)
+    ∙ sym (carries-withdrawal (s .args .t5) finished (s .args .n) b (s .args .bids) (sym (k .before .is-record2 .ensures) ∙ k .if2 .taken)))
 
 returns-3 : tie.Need-returns-3
 returns-3 c =
@@ -62,7 +80,10 @@ carry-out-spec =
     carry-arrival-requires
     returns
     is-record-requires-2
-    element-copy-out-carry-withdrawal
+    enough-requires
+    sub-items
+    part-items-start
+    part-items-end
     carry-withdrawal-requires
     returns-2
     returns-3)

@@ -8,7 +8,7 @@ use Rattle.replay.proofs.lines.carry_withdrawal.Statement.{statement}
 use Rattle.replay.proofs.lines.carry_withdrawal.Tie as tie
 
 withdraw-in-requires : tie.Need-withdraw-in-requires
-withdraw-in-requires c κs = counted (c .pre .1) .sound
+withdraw-in-requires c κs = counted (c .before .pre .1) .sound
 
 abbrev called : tie.After-known-told → tie.After-withdraw-in
 called c = c .before .before .before .before .before
@@ -19,8 +19,8 @@ enum-known-answer c = search needs
 add-t14 : tie.Need-add-t14
 add-t14 c =
     let d = called c in
-    let s = d .before in
-    omega (arith, bids-fit (withdrawal-reached (s .args .item) (d .withdraw-in .ensures) (c .before .answer .given .1) (s .pre)))
+    let s = d .before .before in
+    omega (arith, bids-fit (withdrawal-reached (s .args .items .now) (d .withdraw-in .ensures) (c .before .answer .given .1) (s .pre)))
 
 enum-known-answer-2 : tie.Need-enum-known-answer-2
 enum-known-answer-2 c = search needs
@@ -28,13 +28,13 @@ enum-known-answer-2 c = search needs
 returns : tie.Need-returns
 returns c =
     let d = called c in
-    let s = d .before in
+    let s = d .before .before in
     withdrawal-goes finished (s .args .n) (s .args .bids) (d .withdraw-in .ensures) (c .before .answer .given .1)
 
 returns-2 : tie.Need-returns-2
 returns-2 c =
     let d = c .before .before .before .before .before in
-    let s = d .before in
+    let s = d .before .before in
     withdrawal-stops finished (s .args .n) (s .args .bids) (d .withdraw-in .ensures) (c .before .answer2 .given .1)
 
 pub carry-withdrawal-spec : {M : Type 1} → statement M

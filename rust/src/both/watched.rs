@@ -1,0 +1,56 @@
+//! A board on both sides from its opening on, and the laws of document 01 after every
+//! call: "the bid bound and share are wanted for any list" (document 02, R-3).
+
+use super::{equal, Both, Same, Tally};
+use crate::gen::history::Call;
+use crate::laws::{bids_are_bounded, on_board, require};
+use crate::model::auction::{Edge, Slack};
+use crate::model::refusal::Refusal;
+
+pub struct Watched<'a> {
+    pub both: Both<'a>,
+    /// Edges accepted and bids made, both in all.
+    accepted: u64,
+    bids: u64,
+}
+
+impl Watched<'_> {
+    pub fn open(items: u64, slack: Slack, seen: &mut Tally) -> Same<Watched<'_>> {
+        let both = Both::open(items, slack, seen)?.expect("it opens");
+        Ok(Watched { both, accepted: 0, bids: 0 })
+    }
+
+    pub fn call(&mut self, call: &Call) -> Same<Result<u64, Refusal>> {
+        match call {
+            Call::Arrive(edges) => self.arrive(edges),
+            Call::Withdraw(items) => self.withdraw(items),
+        }
+    }
+
+    pub fn arrive(&mut self, edges: &[Edge]) -> Same<Result<u64, Refusal>> {
+        let answer = self.both.arrive(edges)?;
+        if let Ok(bids) = answer {
+            self.accepted += edges.len() as u64;
+            self.bids += bids;
+        }
+        self.laws()?;
+        Ok(answer)
+    }
+
+    pub fn withdraw(&mut self, items: &[u64]) -> Same<Result<u64, Refusal>> {
+        let before = self.both.ours;
+        let answer = self.both.withdraw(items)?;
+        match answer {
+            Ok(bids) => self.bids += bids,
+            Err(_) => equal("a refusal keeps the board", self.both.ours == before, true)?,
+        }
+        self.laws()?;
+        Ok(answer)
+    }
+
+    fn laws(&mut self) -> Same<()> {
+        require(self.both.is_sound()?, || "not sound".into())?;
+        bids_are_bounded(&self.both.ours, self.accepted, self.bids)?;
+        on_board(&self.both.ours)
+    }
+}
