@@ -141,6 +141,19 @@ typedef struct noughtelm_totals {
     uint64_t total;  /* of the prices and gains; 0 of a refused call */
 } noughtelm_totals;
 
+/* Where the first of two plans stands beside the second. 0 is that of a refused call. */
+#define NOUGHTELM_EARLIER 1
+#define NOUGHTELM_SAME 2
+#define NOUGHTELM_LATER 3
+
+/* The answer of a comparison. */
+typedef struct noughtelm_comparison {
+    uint64_t number;
+    uint64_t place;
+    int64_t difference; /* in pence: the first's weight less the second's; 0 of a refused call */
+    uint64_t order;     /* of the first plan: earlier, same or later; 0 of a refused call */
+} noughtelm_comparison;
+
 /* ---- Calls that make a board, change it and read it */
 
 /*
@@ -181,7 +194,7 @@ noughtelm_told noughtelm_read_out(noughtelm_auction board, uint64_t *plan, size_
                                   uint64_t *prices, size_t prices_len, uint64_t *gains,
                                   size_t gains_len);
 
-/* ---- The exact level, and the check */
+/* ---- The exact level, the check, and two plans side by side */
 
 /*
  * Writes a matching of greatest weight, and prices and gains in whole pence that cover the live
@@ -200,6 +213,16 @@ noughtelm_told noughtelm_exact(noughtelm_auction board, uint64_t *plan, size_t p
 noughtelm_totals noughtelm_check(noughtelm_auction board, const uint64_t *plan, size_t plan_len,
                                  const uint64_t *prices, size_t prices_len, const uint64_t *gains,
                                  size_t gains_len, uint64_t p, uint64_t q);
+
+/*
+ * Compares two plans, each of exactly a cell for each bidder, on the board's live edges (document
+ * 02, R-4): "the difference in pence, negative where the first is worth less", and the order, "the
+ * greater worth first, then by the plan's cells, the first smaller cell making the earlier plan".
+ * The plans are only read. Refusals: "13, then 9 and 10 for the first plan, then 9 and 10 for the
+ * second"; which of the two was refused is not told.
+ */
+noughtelm_comparison noughtelm_compare(noughtelm_auction board, const uint64_t *first,
+                                       size_t first_len, const uint64_t *second, size_t second_len);
 
 /* ---- Calls on a history text */
 
@@ -304,6 +327,11 @@ NOUGHTELM_HOLDS(sizeof(noughtelm_totals) == 32);
 NOUGHTELM_HOLDS(offsetof(noughtelm_totals, place) == 8);
 NOUGHTELM_HOLDS(offsetof(noughtelm_totals, weight) == 16);
 NOUGHTELM_HOLDS(offsetof(noughtelm_totals, total) == 24);
+
+NOUGHTELM_HOLDS(sizeof(noughtelm_comparison) == 32);
+NOUGHTELM_HOLDS(offsetof(noughtelm_comparison, place) == 8);
+NOUGHTELM_HOLDS(offsetof(noughtelm_comparison, difference) == 16);
+NOUGHTELM_HOLDS(offsetof(noughtelm_comparison, order) == 24);
 
 #ifdef __cplusplus
 }

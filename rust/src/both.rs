@@ -13,6 +13,7 @@ use std::collections::BTreeMap;
 use std::fmt::Debug;
 use std::hint::black_box;
 
+pub mod compare;
 pub mod pages;
 pub mod watched;
 

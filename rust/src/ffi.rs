@@ -14,6 +14,10 @@ pub const MAX_OUTPUT: usize = 12_610;
 /// No page is longer: a line of 26 bytes for each bidder, a heading of as many, and
 /// three headings after a form feed.
 pub const MAX_PAGE: usize = 3_435;
+/// Where the first of two plans stands beside the second.
+pub const EARLIER: u64 = 1;
+pub const SAME: u64 = 2;
+pub const LATER: u64 = 3;
 
 /// q-ths of a penny.
 #[repr(C)]
@@ -87,6 +91,17 @@ pub struct Totals {
     pub total: u64,
 }
 
+/// The answer of a comparison: the first plan's weight less the second's, and where the
+/// first stands.
+#[repr(C)]
+#[derive(Clone, Copy, Debug, PartialEq, Eq)]
+pub struct Comparison {
+    pub number: u64,
+    pub place: u64,
+    pub difference: i64,
+    pub order: u64,
+}
+
 impl EdgeBuffer {
     /// The first 65 edges, and how many there are in all.
     pub fn new(edges: &[Edge]) -> Self {
@@ -111,7 +126,7 @@ impl Answer {
 }
 
 mod raw {
-    use super::{Answer, Auction, Edge, EdgeBuffer, Told, Totals};
+    use super::{Answer, Auction, Comparison, Edge, EdgeBuffer, Told, Totals};
 
     extern "C" {
         pub fn noughtelm_open(items: u64, p: u64, q: u64) -> Answer;
@@ -148,6 +163,13 @@ mod raw {
             p: u64,
             q: u64,
         ) -> Totals;
+        pub fn noughtelm_compare(
+            board: Auction,
+            first: *const u64,
+            first_len: usize,
+            second: *const u64,
+            second_len: usize,
+        ) -> Comparison;
         pub fn noughtelm_replay(text: *const u8, len: usize) -> Answer;
         pub fn noughtelm_plan_text(
             text: *const u8,
@@ -259,6 +281,13 @@ pub fn check(
             p,
             q,
         )
+    }
+}
+
+/// Compares two plans.
+pub fn compare(board: Auction, first: &[u64], second: &[u64]) -> Comparison {
+    unsafe {
+        raw::noughtelm_compare(board, first.as_ptr(), first.len(), second.as_ptr(), second.len())
     }
 }
 

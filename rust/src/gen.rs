@@ -1,4 +1,4 @@
-//! Makers of cases: histories, texts, sound and spoilt records, claims, pages.
+//! Makers of cases: histories, texts, sound and spoilt records, claims, pages, plans.
 
 pub mod board;
 pub mod claim;
@@ -6,5 +6,6 @@ pub mod history;
 pub mod items;
 pub mod list;
 pub mod page;
+pub mod plan;
 pub mod sheet;
 pub mod text;

@@ -1,4 +1,4 @@
-//! A second implementation of document 01 and of of document 02, for
+//! A second implementation of document 01 and of of document 02, for
 //! comparison with the proved one.
 //!
 //! `model` says what every call answers, simply and slowly; `page` writes and
@@ -6,8 +6,8 @@
 //! yardstick for speed; `gen` makes cases; `ffi` calls the proved one; `both` calls
 //! the proved one and the model and compares; `laws` are those of every sound
 //! board; `ties` bids one by one and counts what stood equal; `orders` withdraws
-//! so, in R-3's order and in others; `program` runs the built program; `trial` runs
-//! the command ./plan.
+//! so, in R-3's order and in others; `plans` says what R-4 asks of two plans otherwise
+//! than the model; `program` runs the built program; `trial` runs the command ./plan.
 
 pub mod both;
 pub mod fast;
@@ -17,6 +17,7 @@ pub mod laws;
 pub mod model;
 pub mod orders;
 pub mod page;
+pub mod plans;
 pub mod program;
 pub mod rng;
 pub mod ties;

@@ -1,11 +1,13 @@
 //! The cases that document 01 prints, by calls and by texts, the example of R-1 in
-//! document 02, and cases of R-3.
+//! document 02, and cases of R-3 and R-4.
 
 use noughtelm_tests::model::auction::*;
 use noughtelm_tests::model::check::{check, Claim, Totals};
+use noughtelm_tests::model::compare::{compare, Comparison};
 use noughtelm_tests::model::hungarian::solve;
 use noughtelm_tests::model::refusal::Refusal;
 use noughtelm_tests::model::text::sheet;
+use std::cmp::Ordering::{self, Equal, Greater, Less};
 
 fn open(items: u64, p: u64, q: u64) -> Result<Auction, Refusal> {
     Auction::open(items, Slack { p, q })
@@ -228,4 +230,46 @@ fn refusals_of_a_withdrawal_in_order() {
     assert_eq!(auction, before);
     assert_eq!(auction.withdraw(&[1, 3]), Ok(0));
     refused(auction.withdraw(&[1, 1]), 5, 1);
+}
+
+/// Bidders 1 and 2 want items 1 and 2, at 50 and at 51 pence, and bidder 3 item 1.
+fn shared() -> Auction {
+    let mut auction = open(3, 1, 10).unwrap();
+    for edges in [&[(1, 50), (2, 51), (3, 9)][..], &[(1, 50), (2, 51)], &[(1, 50)]] {
+        arrive(&mut auction, edges).unwrap();
+    }
+    auction.withdraw(&[3]).unwrap();
+    auction
+}
+
+/// Document 02, R-4: "negative where the first is worth less", "the greater worth first,
+/// then by the plan's cells, the first smaller cell making the earlier plan".
+#[test]
+fn two_plans() {
+    let cases: [([u64; 3], [u64; 3], i64, Ordering); 8] = [
+        ([1, 2, 0], [1, 2, 0], 0, Equal),
+        ([1, 2, 0], [2, 1, 0], 0, Less),
+        ([0, 2, 1], [1, 2, 0], 0, Less),
+        ([2, 0, 1], [0, 2, 1], 0, Greater),
+        ([0, 0, 1], [0, 2, 0], -1, Greater),
+        ([2, 0, 0], [1, 0, 0], 1, Less),
+        ([0, 0, 0], [2, 0, 1], -101, Greater),
+        ([0, 0, 0], [0, 0, 0], 0, Equal),
+    ];
+    for (first, second, difference, order) in cases {
+        let expected = Ok(Comparison { difference, order });
+        assert_eq!(compare(&shared(), &first, &second), expected, "{first:?} {second:?}");
+    }
+}
+
+/// "9 and 10 for the first plan, then 9 and 10 for the second".
+#[test]
+fn refusals_of_two_plans_in_order() {
+    let auction = shared();
+    refused(compare(&auction, &[1, 1, 9], &[1, 2]), 10, 2);
+    refused(compare(&auction, &[1, 2], &[9, 2, 0]), 9, 0);
+    refused(compare(&auction, &[3, 2, 0], &[]), 10, 1);
+    refused(compare(&auction, &[1, 2, 0], &[1, 1, 1, 1]), 9, 0);
+    refused(compare(&auction, &[1, 2, 0], &[1, 2, 2]), 10, 3);
+    refused(compare(&auction, &[1, 2, 0], &[1, 2, 4]), 10, 3);
 }

@@ -1,8 +1,9 @@
 //! The proved calls, from the static library, on the first cases of document 01
-//! and on the example of R-1 in document 02, and cases of R-3.
+//! and on the example of R-1 in document 02, and cases of R-3 and R-4.
 
+use noughtelm_tests::both::compare::order_of;
 use noughtelm_tests::ffi::{
-    self, Answer, Auction, Edge, EdgeBuffer, Scaled, Told, Totals, MAX_OUTPUT,
+    self, Answer, Auction, Comparison, Edge, EdgeBuffer, Scaled, Told, Totals, MAX_OUTPUT,
 };
 
 const TEXT: &[u8] = b"K\t2\t1\t10\nA\t1\t100\t2\t60\nA\t1\t90\n";
@@ -198,6 +199,58 @@ fn exact_and_check() {
     assert_eq!(ffi::exact(board, &mut [], &mut prices, &mut gains), refused(8, 0));
 }
 
+/// These plans, of these weights, stand in order: every pair of them.
+fn assert_order(board: Auction, plans: &[([u64; 2], i64)]) {
+    for (i, (first, one)) in plans.iter().enumerate() {
+        for (j, (second, other)) in plans.iter().enumerate() {
+            let (difference, order) = (one - other, order_of(i.cmp(&j)));
+            let expected = Comparison { number: 0, place: 0, difference, order };
+            assert_eq!(ffi::compare(board, first, second), expected, "{first:?} {second:?}");
+        }
+    }
+}
+
+/// Document 02, R-4: "the greater worth first, then by the plan's cells, the first smaller
+/// cell making the earlier plan".
+#[test]
+fn plans_in_order() {
+    let plans = [([2, 1], 150), ([1, 0], 100), ([0, 1], 90), ([2, 0], 60), ([0, 0], 0)];
+    assert_order(case_1().board, &plans);
+    let both = [(1, 50), (2, 50)];
+    let board = arrived(arrived(ffi::open(2, 1, 10).board, &both, 1), &both, 1);
+    let pairs = [([1, 2], 100), ([2, 1], 100)];
+    let ones = [([0, 1], 50), ([0, 2], 50), ([1, 0], 50), ([2, 0], 50), ([0, 0], 0)];
+    assert_order(board, &[&pairs[..], &ones].concat());
+}
+
+/// "13, then 9 and 10 for the first plan, then 9 and 10 for the second". Bidders 1 and 3
+/// want item 2, and item 1 is gone.
+#[test]
+fn plans_refused() {
+    let third = ffi::arrive(case_1().board, &FIRST);
+    let board = ffi::withdraw(third.board, &[1]).board;
+    let cases: [(&[u64], &[u64], u64, u64); 10] = [
+        (&[2, 0], &[2, 0, 0], 9, 0),
+        (&[2, 0, 0, 0], &[1, 0], 9, 0),
+        (&[1, 0, 0], &[2, 0], 10, 1),
+        (&[2, 2, 0], &[3, 0, 0], 10, 2),
+        (&[0, 0, 3], &[], 10, 3),
+        (&[2, 0, 2], &[2, 0, 0], 10, 3),
+        (&[2, 0, 0], &[], 9, 0),
+        (&[2, 0, 0], &[0, 1, 0], 10, 2),
+        (&[2, 0, 0], &[2, 0, u64::MAX], 10, 3),
+        (&[0, 0, 2], &[2, 1, 2], 10, 2),
+    ];
+    let mut spoilt = board;
+    spoilt.slack.p = 0;
+    for (first, second, number, place) in cases {
+        let expected = Comparison { number, place, difference: 0, order: 0 };
+        assert_eq!(ffi::compare(board, first, second), expected, "{first:?} {second:?}");
+        let expected = Comparison { number: 13, place: 0, ..expected };
+        assert_eq!(ffi::compare(spoilt, first, second), expected, "{first:?} {second:?}");
+    }
+}
+
 #[test]
 fn refusals_keep_the_board() {
     assert_eq!(ffi::open(0, 1, 10).told(), refused(1, 0));
@@ -234,6 +287,8 @@ fn a_flag_is_0_or_1() {
         assert_eq!(ffi::exact(spoilt, &mut plan, &mut prices, &mut gains), refused(13, 0));
         let totals = Totals { number: 13, place: 0, weight: 0, total: 0 };
         assert_eq!(ffi::check(spoilt, &plan, &prices, &gains, 1, 10), totals);
+        let comparison = Comparison { number: 13, place: 0, difference: 0, order: 0 };
+        assert_eq!(ffi::compare(spoilt, &[2, 0], &[0, 0]), comparison);
         assert_eq!((plan, prices, gains), ([7; 2], [8; 2], [9; 2]));
     }
 }

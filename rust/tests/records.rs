@@ -73,6 +73,10 @@ fn assert_spoilt(record: &Record, what: &str) {
     assert_eq!(exact_record(record, m, y, g), Err(spoilt), "{what}");
     assert_eq!(check_record(record, &claim), Err(spoilt), "{what}");
     assert_eq!(lists, [[MARK; 200]; 3]);
+    for (first, second) in [(0, 0), (0, 200), (200, 0), (record.arrived.min(128) as usize, 200)] {
+        let answer = compare_record(record, &[0; 200][..first], &[MARK; 200][..second]);
+        assert_eq!(answer, Err(spoilt), "{what}");
+    }
     let mut page = [0xab; 4_000];
     assert_eq!(write_page_record(record, &mut page[..0]), Err(spoilt), "{what}");
     assert_eq!(write_page_record(record, &mut page), Err(spoilt), "{what}");

@@ -12,7 +12,8 @@ use noughtelm_tests::model::refusal::*;
 use noughtelm_tests::model::sound::Record;
 use noughtelm_tests::rng::Rng;
 
-const CALLS: [&str; 6] = ["arrive", "withdraw", "read out", "exact", "check", "write page"];
+const CALLS: [&str; 7] =
+    ["arrive", "withdraw", "read out", "exact", "check", "compare", "write page"];
 
 /// Lists to withdraw: none, one, and several, served on some sound board or on none.
 const WITHDRAWN: [&[u64]; 10] =
@@ -20,6 +21,15 @@ const WITHDRAWN: [&[u64]; 10] =
 
 fn empty_claim(slack: Slack) -> Claim {
     Claim { matching: vec![], price: vec![], gain: vec![], slack }
+}
+
+/// Two plans, each one number in a cell for each bidder, in one cell more, or in none.
+fn plans(rng: &mut Rng, r: &Record) -> [Vec<u64>; 2] {
+    let even = r.arrived.min(128) as usize;
+    [0; 2].map(|_| {
+        let length = rng.pick(&[even, even, even, even, even + 1, 0]);
+        vec![rng.pick(&[0, 0, 0, 1, u64::MAX]); length]
+    })
 }
 
 /// All that may be asked of a board; how many calls answered 13.
@@ -38,6 +48,8 @@ fn ask(both: &mut Both, rng: &mut Rng) -> Same<u64> {
     note(both.exact(room)?.err());
     let slack = rng.pick(&[both.model.slack, Slack { p: 0, q: 1 }, Slack { p: 5, q: 5 }]);
     note(both.check(&empty_claim(slack))?.err());
+    let [first, second] = plans(rng, &both.model);
+    note(both.compare(&first, &second)?.err());
     note(both.write_page(if room == [0; 3] { 0 } else { MAX_PAGE })?.err());
     Ok(spoilt)
 }
@@ -113,6 +125,7 @@ fn changed_numbers() {
     seen.assert_seen("read out", &[0, SPOILT, SHORT], 100);
     seen.assert_seen("exact", &[0, SPOILT, SHORT], 100);
     seen.assert_seen("check", &[0, SPOILT, SLACK, UNEVEN], 2);
+    seen.assert_seen("compare", &[0, SPOILT, UNEVEN, CLASH], 50);
     seen.assert_seen("write page", &[0, SPOILT, SHORT], 100);
 }
 

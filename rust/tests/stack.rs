@@ -1,6 +1,6 @@
-//! The deepest alternating paths of the exact level, and many items withdrawn at once
-//! from a full board: in a thread with a stack of 2 MB by call, and in the program
-//! under a limit of 1 MB.
+//! The deepest alternating paths of the exact level, many items withdrawn at once from a
+//! full board, and its plans compared: in a thread with a stack of 2 MB by call, and in the
+//! program, which compares none, under a limit of 1 MB.
 
 use noughtelm_tests::both::{board, record, shown, wide, Both, Tally};
 use noughtelm_tests::ffi::{self, MAX_OUTPUT};
@@ -9,6 +9,7 @@ use noughtelm_tests::gen::text::{dense, write};
 use noughtelm_tests::model::sound::to_record;
 use noughtelm_tests::model::text::sheet;
 use noughtelm_tests::program;
+use std::cmp::Ordering;
 use std::ops::RangeInclusive;
 use std::thread;
 
@@ -80,6 +81,22 @@ fn program_under_a_limit_of_1_mb() {
         tried += 1;
     }
     assert_eq!(tried, 3 * 63 + 4);
+}
+
+/// The board of the dense text: its own plan beside itself and beside the exact one.
+#[test]
+fn plans_in_a_thread_of_2_mb() {
+    let difference = in_a_small_thread(|| {
+        let mut seen = Tally::default();
+        let mut both = Both::on(record(&ffi::replay(&dense()).board), &mut seen);
+        let [own, ..] = both.read_out(wide()).expect("both agree").expect("room");
+        let exact = both.exact(wide()).expect("both agree").expect("room").matching;
+        let own = &own[..exact.len()];
+        let same = both.compare(own, own).expect("both agree").expect("a plan");
+        assert_eq!((same.difference, same.order), (0, Ordering::Equal));
+        both.compare(own, &exact).expect("both agree").expect("two plans").difference
+    });
+    assert!(difference < 0, "{difference}");
 }
 
 /// Items that leave the board of the dense text at once; each has a holder.

@@ -3,7 +3,7 @@
 
 use noughtelm_tests::both::{rooms, wide, Both, Same, Tally};
 use noughtelm_tests::ffi::MAX_PAGE;
-use noughtelm_tests::gen::{board, claim, items, list};
+use noughtelm_tests::gen::{board, claim, items, list, plan};
 use noughtelm_tests::laws::on_board;
 use noughtelm_tests::model::auction::*;
 use noughtelm_tests::model::check::{Claim, MAX_PRICE};
@@ -50,6 +50,10 @@ fn look(both: &mut Both, rng: &mut Rng) -> Same<()> {
     let exact = both.exact(wide())?.expect("a sound board and room");
     let auction = from_record(&both.model).expect("a sound board");
     both.check(&claim::own(&auction))?.ok();
+    both.compare(&auction.matching(), &exact.matching)?.expect("two plans");
+    let [first, second] =
+        [&auction.matching(), &exact.matching].map(|list| plan::damaged(rng, &both.model, list));
+    both.compare(&first, &second)?.ok();
     both.check(&Claim { slack: auction.slack, ..exact.clone() })?.ok();
     both.check(&Claim { matching: auction.matching(), ..exact })?.ok();
     both.check(&claim::damaged(rng, &auction))?.ok();
@@ -95,6 +99,7 @@ fn assert_all_seen(boards: u64, (seen, unreached, high): (Tally, u64, u64)) {
     seen.assert_seen("read out", &[0, SHORT], 100);
     seen.assert_seen("exact", &[0], 100);
     seen.assert_seen("check", &[0, SLACK, UNEVEN, CLASH, PRICE, BARE], 50);
+    seen.assert_seen("compare", &[0, UNEVEN, CLASH], 1_000);
 }
 
 #[test]

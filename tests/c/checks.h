@@ -73,6 +73,15 @@ static inline void totals_are(const char *what, noughtelm_totals got, uint64_t n
     number_is(what, got.total, total);
 }
 
+static inline void comparison_is(const char *what, noughtelm_comparison got, uint64_t number,
+                                 uint64_t place, int64_t difference, uint64_t order)
+{
+    number_is(what, got.number, number);
+    number_is(what, got.place, place);
+    holds(what, got.difference == difference);
+    number_is(what, got.order, order);
+}
+
 /* The last line, and the program's status: 0 where something was checked and nothing failed. */
 static inline int all_checks(void)
 {

@@ -2,6 +2,7 @@
 pub mod Filed
 pub mod Filling
 pub mod Lending
+pub mod Light
 pub mod LiveLaws
 pub mod Numbers
 pub mod Openings

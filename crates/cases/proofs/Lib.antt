@@ -5,3 +5,4 @@ pub mod Text
 pub mod Pages
 pub mod FullBoard
 pub mod Refused
+pub mod Sides

@@ -1,5 +1,5 @@
 -- A case is played on sound boards, so the test of soundness need not be computed again at each call.
-use mathlib.Core.Path.{_≡_, refl, ap, _∙_}
+use mathlib.Core.Path.{_≡_, refl, sym, ap, _∙_}
 use mathlib.Core.Bool.{not}
 use mathlib.Core.List.{List, [], _∷_}
 use lib.ListN.{length}
@@ -24,10 +24,12 @@ use Rattle.auction.specs.Arrive.{arriveRest, arriveBy, arriveOf}
 use Rattle.auction.specs.Withdraw.{withdrawRest, withdrawBy, withdrawOf}
 use Rattle.auction.specs.ReadOut.{ReadOutcome, readOutBy, readOutOf}
 use Rattle.certificate.specs.Check.{checkBy, checkOf, checkRest}
+use Rattle.comparison.specs.Compare.{compareBy}
+use Rattle.comparison.proofs.Outcomes.{plansOn, compare-plans}
 use Rattle.board.proofs.SoundLaw.{sound-decides}
 use Rattle.auction.proofs.Demand2.{arrive-demand-2, withdraw-demand-2}
 use Rattle.auction.proofs.Opening.{opening-sound}
-use Rattle.cases.specs.Play.{Call, arrive, withdraw, check, readOut, afterCheck, afterReadOut, Case, Seen, refusal, seen, played, withdrew, afterArrive, afterWithdraw, playAll, opening, play}
+use Rattle.cases.specs.Play.{Call, arrive, withdraw, check, readOut, compare, afterCheck, afterReadOut, afterCompare, Case, Seen, refusal, seen, played, withdrew, afterArrive, afterWithdraw, playAll, opening, play}
 
 -- Of a read-out's checks the one after the test
 abbrev roomCheck : Auction → Lists → List Check
@@ -40,6 +42,7 @@ skipAll (arrive edges ∷ rest) b bids = afterArrive (skipAll rest) bids (arrive
 skipAll (withdraw items ∷ rest) b bids = afterWithdraw (skipAll rest) bids (withdrawBy b items (firstOf (withdrawRest b items)))
 skipAll (check l p q ∷ rest) b bids = afterCheck (checkBy b l (firstOf (checkRest b l p q)))
 skipAll (readOut l ∷ rest) b bids = afterReadOut (readOutBy b l (firstOf (roomCheck b l)) .lists) (readOutBy b l (firstOf (roomCheck b l)) .answer)
+skipAll (compare first second ∷ rest) b bids = afterCompare (compareBy b first second (firstOf (plansOn b first second)))
 
 pub arrive-skips : (b : Auction) (edges : List Edge) → Sound b → arriveOf b edges ≡ arriveBy b edges (firstOf (arriveRest b edges))
 unfolding arriveOf firstOf
@@ -91,6 +94,7 @@ all-skip (withdraw items ∷ rest) b bids s =
     after-withdraw rest (all-skip rest) b items bids _ refl ∙ ap (afterWithdraw (skipAll rest) bids) (withdraw-skips b items s)
 all-skip (check l p q ∷ rest) b bids s = ap afterCheck (check-skips b l p q s)
 all-skip (readOut l ∷ rest) b bids s = ap (λ (o : ReadOutcome). afterReadOut (o .lists) (o .answer)) (read-out-skips b l s)
+all-skip (compare first second ∷ rest) b bids s = ap afterCompare (sym (compare-plans b first second (sound-decides b .complete s)))
 
 unfoldable pub skipOpening : List Call → Auction → Opened → Seen
 skipOpening calls b Opened.Ready = skipAll calls b []

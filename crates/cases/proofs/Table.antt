@@ -16,7 +16,7 @@ use Rattle.bidding.specs.Withdrawals.{displacedIf, vacated, vacatedTo, namedIn,
 use Rattle.auction.specs.Withdraw.{withdrawRest, withdrawalOf, withdrawBy}
 use Rattle.duality.specs.Decide.{allBelow}
 use Rattle.duality.specs.Tests.{freshTest, cellTest}
-use Rattle.certificate.specs.Check.{evenTest, clashChecks, priceTest, priceChecks, gainChecks, coveredTest, bareChecks, checkBy, listChecks, checkRest}
+use Rattle.certificate.specs.Check.{evenTest, priceTest, coveredTest, checkBy, listChecks, checkRest}
 use Rattle.cases.specs.Play.{afterCheck, afterReadOut, afterArrive, afterWithdraw, played, withdrew, play}
 use Rattle.board.specs.Lent.{roomTest}
 use Rattle.auction.specs.ReadOut.{readOutBy}
@@ -30,7 +30,7 @@ all-played (r ∷ rows) = rw (play-skips (r .case), all-played rows)
 
 computed : map (λ r. skip (r .case)) table ≡ map (λ r. r .seen) table
 unfolding
-    table skip checkRest afterCheck listChecks clashChecks priceTest priceChecks gainChecks coveredTest bareChecks evenTest checkBy freshTest cellTest allBelow
+    table skip checkRest afterCheck listChecks priceTest coveredTest evenTest checkBy freshTest cellTest allBelow
     skipOpening skipAll afterArrive afterWithdraw played withdrew heldBy edgeCount
     offerOf bestOf placedAt displaced handOver bidOf settleOf firstOf withinTest orderTest edgeChecks itemChecks eachChecks rowTo
     opened slackTest openBy openOf arriveRest entered arrivalOf arrivedOf arriveBy withdrawRest released withdrawalOf withdrawBy
@@ -39,7 +39,7 @@ computed = refl
 
 pub computed-refusals : map (λ r. skip (r .case)) refusals ≡ map (λ r. r .seen) refusals
 unfolding
-    refusals skip checkRest afterCheck listChecks clashChecks priceTest priceChecks gainChecks coveredTest bareChecks evenTest checkBy freshTest cellTest allBelow
+    refusals skip checkRest afterCheck listChecks priceTest coveredTest evenTest checkBy freshTest cellTest allBelow
     skipOpening skipAll afterArrive afterWithdraw afterReadOut played withdrew heldBy edgeCount roomTest readOutBy
     offerOf bestOf placedAt displaced handOver bidOf settleOf firstOf withinTest orderTest edgeChecks itemChecks eachChecks rowTo
     opened slackTest openBy openOf arriveRest entered arrivalOf arrivedOf arriveBy withdrawRest released withdrawalOf withdrawBy

@@ -1,6 +1,7 @@
 -- A history of calls, played over the meanings of the calls.
 use mathlib.Core.List.{List, [], _∷_}
 use Prim.Native.Nat.{ℕ, zero, suc}
+use lib.IntN.{ℤ}
 use Rattle.duality.specs.Cover.{total}
 use Rattle.duality.specs.Greatest.{greatestWeight}
 use Rattle.board.specs.declared.record.Auction.{Auction}
@@ -22,6 +23,8 @@ use Rattle.auction.specs.Withdraw.{withdrawOf}
 use Rattle.auction.specs.ReadOut.{readOutOf}
 use Rattle.certificate.specs.declared.Checked.{Checked}
 use Rattle.certificate.specs.Check.{checkOf}
+use Rattle.comparison.specs.declared.Compared.{Compared}
+use Rattle.comparison.specs.Compare.{compareOf, orderNumber}
 
 -- A call after opening
 pub data Call : Type 0 where
@@ -29,6 +32,7 @@ pub data Call : Type 0 where
   withdraw : List ℕ → Call
   check : Lists → ℕ → ℕ → Call
   readOut : Lists → Call
+  compare : List ℕ → List ℕ → Call
 
 -- A case: a board to open, and the calls on it
 pub record Case : Type 0 where
@@ -41,11 +45,13 @@ abbrev pub on : ℕ → ℕ → ℕ → List Call → Case
 on items p q calls = record { items = items; p = p; q = q; calls = calls }
 
 -- What is seen at the end: the matching, gains and prices, the matching's weight, the sum of prices and gains, the greatest weight, the bids of each
--- call; or a check's two totals; or the lists that were read out; or the refusal that stopped the case, by number and place
+-- call; or a check's two totals; or the lists that were read out; or the difference and the order of two plans; or the refusal that stopped the case, by
+-- number and place
 pub data Seen : Type 0 where
   board : List ℕ → List ℕ → List ℕ → ℕ → ℕ → ℕ → List ℕ → Seen
   totals : ℕ → ℕ → Seen
   wrote : Lists → Seen
+  sides : ℤ → ℕ → Seen
   refused : ℕ → ℕ → Seen
   unended : Seen
 
@@ -79,7 +85,7 @@ unfoldable pub afterWithdraw : (Auction → List ℕ → Seen) → List ℕ → 
 afterWithdraw next bids spent = unended
 afterWithdraw next bids (done a) = withdrew next bids (a .auction) (a .answer)
 
--- A check is the last call, and so is a read-out
+-- A check is the last call, and so are a read-out and a comparison
 unfoldable pub afterCheck : Checked → Seen
 afterCheck (Checked.Totals weight sum) = totals (weight .0) (sum .0)
 afterCheck (Checked.Refused r) = refusal (codeOf r)
@@ -88,6 +94,10 @@ unfoldable pub afterReadOut : Lists → ReadOut → Seen
 afterReadOut l ReadOut.Written = wrote l
 afterReadOut l (ReadOut.Refused r) = refusal (codeOf r)
 
+unfoldable pub afterCompare : Compared → Seen
+afterCompare (Compared.Plans difference order) = sides difference (orderNumber order)
+afterCompare (Compared.Refused r) = refusal (codeOf r)
+
 -- The calls in turn; the bids of the last call first
 unfoldable pub playAll : List Call → Auction → List ℕ → Seen
 playAll [] b bids = seen b bids
@@ -95,6 +105,7 @@ playAll (arrive edges ∷ rest) b bids = afterArrive (playAll rest) bids (arrive
 playAll (withdraw items ∷ rest) b bids = afterWithdraw (playAll rest) bids (withdrawOf b items)
 playAll (check l p q ∷ rest) b bids = afterCheck (checkOf b l p q)
 playAll (readOut l ∷ rest) b bids = afterReadOut (readOutOf b l .lists) (readOutOf b l .answer)
+playAll (compare first second ∷ rest) b bids = afterCompare (compareOf b first second)
 
 unfoldable pub opening : List Call → Auction → Opened → Seen
 opening calls b Opened.Ready = playAll calls b []

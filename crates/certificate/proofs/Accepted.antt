@@ -1,8 +1,6 @@
 -- What the check accepts, both ways.
-use mathlib.Core.Path.{_≡_, refl, _∙_}
-use Prim.Native.Nat.{ℕ, zero, suc, _≤_, _<_}
-use native.Mathlib.Omega.{arith}
-use Rattle.duality.specs.Matching.{IsMatching}
+use mathlib.Core.Path.{_≡_, _∙_}
+use Prim.Native.Nat.{ℕ}
 use Rattle.duality.specs.Lists.{cells}
 use Rattle.board.specs.declared.record.Auction.{Auction}
 use Rattle.refusals.specs.declared.Verdict.the-variants.{Served}
@@ -16,18 +14,11 @@ use Rattle.board.proofs.SoundLaw.{sound-decides}
 use Rattle.refusals.proofs.Verdicts.{first-on, served-both}
 use Rattle.certificate.specs.Check.{Even, checkChecks, checkBy, checkOf, listChecks, checkRest}
 use Rattle.certificate.specs.Accepted.{Accepted, TotalsAccepted, AcceptedTotals}
-use Rattle.certificate.proofs.Places.{served-next, next-serves}
-use Rattle.certificate.proofs.Served.{clash-served, price-served, gain-served, bare-served}
+use Rattle.refusals.proofs.Places.{test-served, test-serves}
+use Rattle.matching.proofs.Clashes.{unclashed-matches}
+use Rattle.certificate.proofs.Served.{price-served, gain-served, bare-served}
 use Rattle.certificate.proofs.Tests.{lists-even}
 use Rattle.certificate.proofs.Outcomes.{checked-totals, listsOf, by-totals}
-
--- A plan's cells are items of the board, or 0
-pub cell-within : {n m : ℕ} {w : ℕ → ℕ → ℕ} {plan : ℕ → ℕ} → IsMatching n m w plan → (i : ℕ) → i < n → plan i ≤ m
-cell-within {m = m} {plan = plan} h i l = go (plan i) refl
-  where
-    go : (c : ℕ) → plan i ≡ c → c ≤ m
-    go zero e = omega arith
-    go (suc k) e = h .along i k l e .0
 
 module _ (b : Auction) (l : Lists) (p q : ℕ) where
   -- The bidders, the items and the live weights
@@ -51,7 +42,7 @@ module _ (b : Auction) (l : Lists) (p q : ℕ) where
         sound = sound;
         slack = slack;
         even = even;
-        matches = clash-served n m w (cells (l .plan)) .0 plan;
+        matches = unclashed-matches n m w (cells (l .plan)) .0 plan;
         prices = λ k h. price-served m (b .market .withdrawn) (cells (l .prices)) .0 prices k h .0;
         withdrawn = λ k h. price-served m (b .market .withdrawn) (cells (l .prices)) .0 prices k h .1;
         gains = gain-served n m (cells (l .gains)) .0 gains;
@@ -61,18 +52,18 @@ module _ (b : Auction) (l : Lists) (p q : ℕ) where
   accepted : firstOf (checkChecks b l p q) ≡ Served → Accepted b l p q
   unfolding checkRest
   accepted e =
-      let (sound, e₁) = served-next _ _ _ e in
-      let (slack, e₂) = served-next _ _ _ e₁ in
-      let (even, e₃) = served-next _ _ _ e₂ in
+      let (sound, e₁) = test-served _ _ _ e in
+      let (slack, e₂) = test-served _ _ _ e₁ in
+      let (even, e₃) = test-served _ _ _ e₂ in
       lists-accepted (sound-decides b .sound sound) (slack-decides 0 p q .sound slack) (lists-even b l .sound even) e₃
 
   served : Accepted b l p q → firstOf (checkChecks b l p q) ≡ Served
   unfolding checkRest listChecks
   served a =
-      next-serves _ _ _ (sound-decides b .complete (a .sound))
-      (next-serves _ _ _ (slack-decides 0 p q .complete (a .slack))
-      (next-serves _ _ _ (lists-even b l .complete (a .even))
-      (first-on _ _ (clash-served n m w (cells (l .plan)) .1 (a .matches)) ∙
+      test-serves _ _ _ (sound-decides b .complete (a .sound))
+      (test-serves _ _ _ (slack-decides 0 p q .complete (a .slack))
+      (test-serves _ _ _ (lists-even b l .complete (a .even))
+      (first-on _ _ (unclashed-matches n m w (cells (l .plan)) .1 (a .matches)) ∙
       (first-on _ _ (price-served m (b .market .withdrawn) (cells (l .prices)) .1 (λ k h. (a .prices k h, a .withdrawn k h))) ∙
       (first-on _ _ (gain-served n m (cells (l .gains)) .1 (a .gains)) ∙
       bare-served n m w p q (cells (l .prices)) (cells (l .gains)) .1 (a .covers))))))

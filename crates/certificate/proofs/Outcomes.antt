@@ -1,7 +1,7 @@
 -- The check's outcome, as the code comes to it.
-use mathlib.Core.Path.{_≡_, refl, sym, ap, ap₂, _∙_}
+use mathlib.Core.Path.{_≡_, refl, ap, ap₂}
 use mathlib.Core.Bool.{true, false}
-use mathlib.Core.List.{List, _++_}
+use mathlib.Core.List.{List}
 use Prim.Native.Nat.{ℕ}
 use native.Mathlib.Omega.{arith}
 use lib.ListN.{length}
@@ -23,18 +23,11 @@ use Rattle.board.specs.Ranges.{slackTest}
 use Rattle.board.specs.Lent.{Lists}
 use Rattle.refusals.specs.Codes.{code}
 use Rattle.refusals.specs.Told.{refused}
-use Rattle.refusals.proofs.Verdicts.{codes-apart, first-on, first-stops}
+use Rattle.refusals.proofs.Verdicts.{codes-apart}
 use Rattle.refusals.proofs.Answers.{numbered}
 use Rattle.certificate.specs.declared.Checked.{Checked}
 use Rattle.certificate.specs.declared.Totals.{Totals}
 use Rattle.certificate.specs.Check.{evenTest, checkBy, checkOf, listChecks, checkRest, totals, withoutTotals, checkedTold}
-
--- A verdict on the first of two lists of checks stands, or leaves it to the second
-pub stops : (xs ys : List Check) (v : Verdict) (r : Refusal) → v ≡ firstOf xs → v ≡ Refused r → v ≡ firstOf (xs ++ ys)
-stops xs ys v r e s = s ∙ sym (first-stops xs ys r (sym e ∙ s))
-
-pub passes : (xs ys : List Check) (v w : Verdict) → v ≡ firstOf xs → v ≡ Served → w ≡ firstOf ys → w ≡ firstOf (xs ++ ys)
-passes xs ys v w e s h = h ∙ sym (first-on xs ys (sym e ∙ s))
 
 -- The refusals 10, 11 and 12 of a board
 abbrev pub listsOf : Auction → Lists → ℕ → ℕ → List Check

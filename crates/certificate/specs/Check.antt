@@ -1,14 +1,13 @@
 -- What the check answers, on all inputs.
 use mathlib.Core.Path.{_≡_}
 use mathlib.Core.Bool.{Bool, true, not, _&&_, _||_}
-use mathlib.Core.List.{List, [], _∷_, _++_}
-use Prim.Native.Nat.{ℕ, zero, suc, _+_, _-_, _*_, _≤_, _<_}
+use mathlib.Core.List.{List, _∷_, _++_}
+use Prim.Native.Nat.{ℕ, suc, _+_, _-_, _*_, _≤_, _<_}
 use lib.ListN.{length}
 use lib.Dec.{eqb, leb}
 use Rattle.duality.specs.Matching.{weightOf}
 use Rattle.duality.specs.Cover.{total}
 use Rattle.duality.specs.Decide.{allBelow}
-use Rattle.duality.specs.Tests.{cellTest}
 use Rattle.duality.specs.Lists.{cells}
 use Rattle.board.specs.declared.record.Auction.{Auction}
 use Rattle.refusals.specs.declared.Refusal.{Refusal}
@@ -16,16 +15,18 @@ use Rattle.refusals.specs.declared.Refusal.the-variants.{Slack, Uneven, Clash, 
 use Rattle.refusals.specs.declared.Verdict.{Verdict}
 use Rattle.refusals.specs.declared.Told.{Told}
 use Rattle.refusals.specs.Told.{refused}
-use Rattle.board.specs.Cells.{pence, scaled, flagAt, withdrawnAt, weightAt}
+use Rattle.board.specs.Cells.{pence, scaled, flagAt, withdrawnAt}
 use Rattle.board.specs.Live.{live}
 use Rattle.board.specs.Sound.{Sound}
 use Rattle.board.specs.Ranges.{SlackIn, slackTest}
 use Rattle.board.specs.SoundTest.{soundTest}
 use Rattle.refusals.specs.Demand1.{Check, checkFor, firstOf}
+use Rattle.refusals.specs.Each.{cellChecks}
 use Rattle.board.specs.Lent.{Lists}
 use Rattle.certificate.specs.declared.Checked.{Checked}
 use Rattle.certificate.specs.declared.Totals.{Totals}
 use Rattle.board.specs.Limits.{maxPrice}
+use Rattle.matching.specs.Clash.{Clashes, clashChecks}
 
 -- ---- The rows of the table, in its words. The lists are read by cell: bidder i + 1 is cell i, item k + 1 is cell k.
 
@@ -34,13 +35,6 @@ pub record Even (b : Auction) (l : Lists) : Type 0 where
   pub plan : length (l .plan) ≡ b .market .arrived
   pub prices : length (l .prices) ≡ b .market .items
   pub gains : length (l .gains) ≡ b .market .arrived
-
--- "cell neither 0 nor a kettle's number, or its kettle gone, without entry for this batch, or named by an earlier batch"
-pub data Clashes (b : Auction) (plan : ℕ → ℕ) (i : ℕ) : Type 0 where
-  unknown : b .market .items < plan i → Clashes b plan i
-  gone : {k : ℕ} → plan i ≡ suc k → withdrawnAt b k ≡ true → Clashes b plan i
-  edgeless : {k : ℕ} → plan i ≡ suc k → weightAt b i k ≡ 0 → Clashes b plan i
-  named : {h k : ℕ} → plan i ≡ suc k → h < i → plan h ≡ suc k → Clashes b plan i
 
 -- "above 1,000,000,000, or a withdrawn kettle's not 0"
 pub data PriceBad (b : Auction) (prices : ℕ → ℕ) (k : ℕ) : Type 0 where
@@ -76,40 +70,33 @@ Capped l = (k : ℕ) → k < length l → cells l k ≤ maxPrice
 unfoldable pub evenTest : ℕ → ℕ → ℕ → ℕ → ℕ → Bool
 evenTest bidders items plan prices gains = eqb plan bidders && (eqb prices items && eqb gains bidders)
 
--- Refusal 10: a matching against the live weights w. Bidders from cell i on, n of them
-unfoldable pub clashChecks : ℕ → (ℕ → ℕ → ℕ) → (ℕ → ℕ) → ℕ → ℕ → List Check
-clashChecks items w plan i zero = []
-clashChecks items w plan i (suc n) = checkFor (Clash (suc i)) (not (cellTest items w plan i (plan i))) ∷ clashChecks items w plan (suc i) n
+-- Refusal 10 is that of the crate matching, `clashChecks`
 
--- Refusal 11: prices against the flags of the withdrawn items, and gains. Items from cell k on, bidders from cell i on, n of them
+-- Refusal 11: the prices of n items against the flags of the withdrawn ones, and the gains of n bidders
 unfoldable pub priceTest : List ℕ → (ℕ → ℕ) → ℕ → Bool
 priceTest withdrawn prices k = leb (prices k) maxPrice && (not (flagAt withdrawn k) || eqb (prices k) 0)
 
-unfoldable pub priceChecks : List ℕ → (ℕ → ℕ) → ℕ → ℕ → List Check
-priceChecks withdrawn prices k zero = []
-priceChecks withdrawn prices k (suc n) = checkFor (Price (suc k)) (not (priceTest withdrawn prices k)) ∷ priceChecks withdrawn prices (suc k) n
+abbrev pub priceChecks : List ℕ → (ℕ → ℕ) → ℕ → List Check
+priceChecks withdrawn prices n = cellChecks (λ k. Price (suc k)) (priceTest withdrawn prices) n
 
-unfoldable pub gainChecks : ℕ → (ℕ → ℕ) → ℕ → ℕ → List Check
-gainChecks items gains i zero = []
-gainChecks items gains i (suc n) = checkFor (Price (items + suc i)) (not (leb (gains i) maxPrice)) ∷ gainChecks items gains (suc i) n
+abbrev pub gainChecks : ℕ → (ℕ → ℕ) → ℕ → List Check
+gainChecks items gains n = cellChecks (λ i. Price (items + suc i)) (λ i. leb (gains i) maxPrice) n
 
 -- Every live edge of a bidder is covered: its live weights by item, and its gain y
 unfoldable pub coveredTest : ℕ → (ℕ → ℕ) → ℕ → ℕ → (ℕ → ℕ) → ℕ → Bool
 coveredTest items row p q prices y = allBelow items (λ k. leb ((q - p) * row k) (y + prices k))
 
--- Refusal 12: prices and gains against the live weights w. Bidders from cell i on, n of them
-unfoldable pub bareChecks : ℕ → (ℕ → ℕ → ℕ) → ℕ → ℕ → (ℕ → ℕ) → (ℕ → ℕ) → ℕ → ℕ → List Check
-bareChecks items w p q prices gains i zero = []
-bareChecks items w p q prices gains i (suc n) =
-    checkFor (Bare (suc i)) (not (coveredTest items (w i) p q prices (gains i))) ∷ bareChecks items w p q prices gains (suc i) n
+-- Refusal 12: prices and gains against the live weights w of n bidders
+abbrev pub bareChecks : ℕ → (ℕ → ℕ → ℕ) → ℕ → ℕ → (ℕ → ℕ) → (ℕ → ℕ) → ℕ → List Check
+bareChecks items w p q prices gains n = cellChecks (λ i. Bare (suc i)) (λ i. coveredTest items (w i) p q prices (gains i)) n
 
 -- The lists themselves: "10, 11, 12". Of so many bidders and items, the flags of the withdrawn items, and the live weights w
 unfoldable pub listChecks : ℕ → ℕ → List ℕ → (ℕ → ℕ → ℕ) → Lists → ℕ → ℕ → List Check
 listChecks bidders items withdrawn w l p q =
-    clashChecks items w (cells (l .plan)) 0 bidders ++
-    (priceChecks withdrawn (cells (l .prices)) 0 items ++
-    (gainChecks items (cells (l .gains)) 0 bidders ++
-    bareChecks items w p q (cells (l .prices)) (cells (l .gains)) 0 bidders))
+    clashChecks items w (cells (l .plan)) bidders ++
+    (priceChecks withdrawn (cells (l .prices)) items ++
+    (gainChecks items (cells (l .gains)) bidders ++
+    bareChecks items w p q (cells (l .prices)) (cells (l .gains)) bidders))
 
 -- The checks after that of soundness, and all
 unfoldable pub checkRest : Auction → Lists → ℕ → ℕ → List Check

@@ -1,15 +1,16 @@
 -- Demand 1 of the check, told in numbers.
 use mathlib.Core.Path.{_≡_}
-use mathlib.Core.List.{List, [], _∷_, _++_}
-use Prim.Native.Nat.{ℕ, zero, suc, _+_}
+use mathlib.Core.List.{_∷_, _++_}
+use Prim.Native.Nat.{ℕ, _+_}
 use Rattle.duality.specs.Matching.{weightOf}
 use Rattle.duality.specs.Cover.{total}
 use Rattle.duality.specs.Lists.{cells}
 use Rattle.board.specs.declared.record.Auction.{Auction}
 use Rattle.board.specs.Live.{live}
-use Rattle.refusals.specs.Codes.{Code, code}
+use Rattle.refusals.specs.Codes.{code}
 use Rattle.refusals.specs.Told.{refused}
 use Rattle.refusals.specs.Demand1.{codesOf, Demand1}
+use Rattle.refusals.specs.Each.{placesOf}
 use Rattle.board.specs.Lent.{Lists}
 use Rattle.certificate.specs.Check.{CheckMet, checkChecks, checkOf, totals, withoutTotals, checkedTold}
 
@@ -21,11 +22,6 @@ CheckDemand1 =
     (λ r. checkedTold (checkOf b l p q) ≡ withoutTotals (refused r))
     (checkedTold (checkOf b l p q) ≡
     totals (weightOf (b .market .arrived) (live b) (cells (l .plan))) (total (b .market .arrived) (b .market .items) (cells (l .prices)) (cells (l .gains))))
-
--- One number at n places, from place i on
-abbrev pub placesOf : ℕ → ℕ → ℕ → List Code
-placesOf number i zero = []
-placesOf number i (suc n) = code number i ∷ placesOf number (suc i) n
 
 -- "Check 13, 2, 9, 10, 11, 12, lowest place first": 10 at each bidder, 11 at each item and then at "k + batch for a gain", 12 at each bidder
 abbrev pub CheckOrder : Type 0

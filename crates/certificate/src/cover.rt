@@ -1,8 +1,8 @@
 // Prices and gains that were made elsewhere, as a cover of the live edges.
-use crate::live::live_weight;
 use board::lent::sum;
 use board::record::Auction;
 use board::units::Slack;
+use matching::live::live_weight;
 use refusals::Refusal;
 use refusals::Verdict;
 ghost use mathlib.Core.Path.{_≡_};
@@ -30,7 +30,7 @@ fn price_holds(price: u64, withdrawn: bool) -> bool
 // Refusal 11 at an item: the first whose price does not hold.
 pub(crate) fn prices_verdict(withdrawn: &[u8; Auction::MAX_ITEMS], prices: &[u64]) -> Verdict
     requires { ⌜ length (now prices) ≤ maxItems ⌝ }
-    ensures { λ r. ⌜ r ≡ firstOf (priceChecks (now (withdrawn .entry)) (cells (now (prices .entry))) 0 (length (now (prices .entry)))) ⌝ }
+    ensures { λ r. ⌜ r ≡ firstOf (priceChecks (now (withdrawn .entry)) (cells (now (prices .entry))) (length (now (prices .entry)))) ⌝ }
 {
     let mut k: usize = 0;
     while k < prices.len() {
@@ -45,7 +45,7 @@ pub(crate) fn prices_verdict(withdrawn: &[u8; Auction::MAX_ITEMS], prices: &[u64
 // Refusal 11 at a bidder: the first whose gain is above the limit.
 pub(crate) fn gains_verdict(items: u64, gains: &[u64]) -> Verdict
     requires { ⌜ (items ≤ maxItems) × (length (now gains) ≤ maxBidders) ⌝ }
-    ensures { λ r. ⌜ r ≡ firstOf (gainChecks items (cells (now (gains .entry))) 0 (length (now (gains .entry)))) ⌝ }
+    ensures { λ r. ⌜ r ≡ firstOf (gainChecks items (cells (now (gains .entry))) (length (now (gains .entry)))) ⌝ }
 {
     let mut i: usize = 0;
     while i < gains.len() {
@@ -90,7 +90,7 @@ pub(crate) fn cover_verdict<'a>(
 ) -> Verdict
     requires { ⌜ (slack .p < slack .q) × (slack .q ≤ maxQ) × (length (now gains) ≤ maxBidders) × (length (now prices) ≤ maxItems) × Capped (now prices) × Capped (now gains) ⌝ }
     ensures { λ r. ⌜ r ≡ firstOf (bareChecks (length (now (prices .entry))) (liveOf (now (withdrawn .entry)) (now (weights .entry)))
-        (slack .p) (slack .q) (cells (now (prices .entry))) (cells (now (gains .entry))) 0 (length (now (gains .entry)))) ⌝ }
+        (slack .p) (slack .q) (cells (now (prices .entry))) (cells (now (gains .entry))) (length (now (gains .entry)))) ⌝ }
 {
     let mut i: usize = 0;
     while i < gains.len() {

@@ -1,20 +1,18 @@
 // The check of a matching, prices and gains that were made elsewhere.
 mod cover; // prices and gains: refusals 11 and 12, and their sum
-mod live; // the live edges of a board that is lent
-mod matching; // a plan: refusal 10, and its weight
 
 use crate::cover::cover_verdict;
 use crate::cover::gains_verdict;
 use crate::cover::prices_verdict;
 use crate::cover::sum_of;
-use crate::matching::plan_verdict;
-use crate::matching::plan_weight;
 use board::ranges::is_slack;
 use board::record::Auction;
 use board::sound::is_sound_in;
 use board::units::Pence;
 use board::units::Scaled;
 use board::units::Slack;
+use matching::clash::plan_verdict;
+use matching::weight::plan_weight;
 use refusals::Refusal;
 use refusals::Verdict;
 ghost use mathlib.Core.Path.{_≡_};

@@ -1,6 +1,7 @@
 -- Laws of tests: what decides parts decides the whole.
 use mathlib.Core.Path.{_≡_, refl, sym}
 use mathlib.Core.Bool.{Bool, true, false, not, _&&_, _||_}
+use mathlib.Core.Logic.{_↔_}
 use Prim.Native.Nat.{ℕ, zero, suc, _+_, _<_, _≤_}
 use native.Mathlib.Nat.{not-suc-le-zero}
 use native.Mathlib.Numerals.{add-one}
@@ -24,6 +25,10 @@ false-is false d h = refl
 pub same-test : (s t : Bool) {P : Type 0} → Decides s P → Decides t P → s ≡ t
 same-test true t d e = true-is e (d .sound refl)
 same-test false t d e = false-is t e (λ p. clash false (d .complete p) refl)
+
+-- What one test decides comes to the same
+pub agree : {t : Bool} {P Q : Type 0} → Decides t P → Decides t Q → P ↔ Q
+agree d e = (λ p. e .sound (d .complete p), λ q. d .sound (e .complete q))
 
 -- The same test for another wording
 pub reword : {t : Bool} {P Q : Type 0} → Decides t P → (P → Q) → (Q → P) → Decides t Q

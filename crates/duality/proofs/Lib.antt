@@ -2,6 +2,7 @@
 pub mod Below
 pub mod Sums
 pub mod Decide
+pub mod Fails
 pub mod Agree
 pub mod Lists
 pub mod HeldPrices

@@ -9,6 +9,9 @@ use board::opening::Opening;
 use board::record::Auction;
 use certificate::Checked;
 use certificate::Totals;
+use comparison::Compared;
+use comparison::Comparison;
+use comparison::order::Ordering;
 use history::planning::Planned;
 use hungarian::exact::Greatest;
 use page::reading::PageRead;
@@ -25,6 +28,7 @@ ghost use Rattle.auction.specs.Withdraw.{withdrawnTold};
 ghost use Rattle.auction.specs.ReadOut.{readOutTold};
 ghost use Rattle.hungarian.specs.Exact.{exactTold};
 ghost use Rattle.certificate.specs.Check.{checkedTold};
+ghost use Rattle.comparison.specs.Compare.{orderNumber, comparedTold};
 ghost use Rattle.replay.specs.TextDemand1.{endingTold};
 ghost use Rattle.history.specs.Demand1.{plannedTold};
 ghost use Rattle.page.specs.Writing.{writtenTold};
@@ -173,6 +177,40 @@ pub(crate) fn totals_of(answer: Checked) -> Totals
                 place: refused.place,
                 weight: 0,
                 total: 0,
+            }
+        }
+    }
+}
+
+// Where a plan stands: 1, 2 or 3.
+fn order_number(order: Ordering) -> u64
+    ensures { λ r. ⌜ r ≡ orderNumber order ⌝ }
+{
+    match order {
+        Ordering::Earlier => 1,
+        Ordering::Same => 2,
+        Ordering::Later => 3,
+    }
+}
+
+// What the comparison answers.
+pub(crate) fn comparison_of(answer: Compared) -> Comparison
+    ensures { λ r. ⌜ r ≡ comparedTold answer ⌝ }
+{
+    match answer {
+        Compared::Plans(difference, order) => Comparison {
+            number: 0,
+            place: 0,
+            difference,
+            order: order_number(order),
+        },
+        Compared::Refused(refusal) => {
+            let refused = refusing(refusal);
+            Comparison {
+                number: refused.number,
+                place: refused.place,
+                difference: 0,
+                order: 0,
             }
         }
     }

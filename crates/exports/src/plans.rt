@@ -1,14 +1,18 @@
-// The exact level, and the check of lists that were made elsewhere.
+// The exact level, the check of lists that were made elsewhere, and two plans side by side.
+use crate::answers::comparison_of;
 use crate::answers::exact_told;
 use crate::answers::totals_of;
 use board::record::Auction;
 use certificate::Totals;
 use certificate::check;
+use comparison::Comparison;
+use comparison::compare;
 use hungarian::exact::exact;
 use refusals::Told;
 ghost use mathlib.Core.Path.{_≡_};
 ghost use Rattle.board.specs.Lent.{lists};
 ghost use Rattle.certificate.specs.Check.{checkOf, checkedTold};
+ghost use Rattle.comparison.specs.Compare.{compareOf, comparedTold};
 ghost use Rattle.exports.specs.Answers.{ExactAnswer};
 
 // Writes a matching of greatest weight, and prices and gains that show it, into three lent lists. The value is that weight.
@@ -39,4 +43,13 @@ pub extern "C" fn noughtelm_check(
 {
     let answer = check(board, plan, prices, gains, p, q);
     totals_of(answer)
+}
+
+// Compares two plans on a board's live edges.
+#[no_mangle]
+pub extern "C" fn noughtelm_compare(board: Auction, first: &[u64], second: &[u64]) -> Comparison
+    ensures { λ r. ⌜ r ≡ comparedTold (compareOf board (now (first .entry)) (now (second .entry))) ⌝ }
+{
+    let answer = compare(board, first, second);
+    comparison_of(answer)
 }

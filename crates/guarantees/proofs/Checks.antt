@@ -30,7 +30,8 @@ use Rattle.certificate.specs.declared.Totals.{Totals}
 use Rattle.certificate.specs.Check.{totals}
 use Rattle.certificate.proofs.Accepted.{totals-accepted, accepted-totals}
 use Rattle.guarantees.specs.Checks.{cut, ExactAccepted, EqualTotalsBest, ReadOutAccepted}
-use Rattle.guarantees.proofs.Modest.{Modest, live-light, reached-modest}
+use Rattle.board.proofs.Light.{live-within}
+use Rattle.guarantees.proofs.Modest.{Modest, reached-modest}
 use Rattle.guarantees.proofs.Bounds.{price-below, gain-below, cut-cell}
 
 pub exact-accepted : ExactAccepted
@@ -45,9 +46,9 @@ exact-accepted b before after answer s room o =
         gains = length-take-le (b .market .arrived) (after .gains) (omega (arith, shown .gains .size, room .gains));
       };
       matches = matching-as plan (shown .matches);
-      prices = λ k l. le-trans (same-below (prices k l) (price-below tight maxWeight (live-light b s) k l)) (omega arith);
+      prices = λ k l. le-trans (same-below (prices k l) (price-below tight maxWeight (live-within b s) k l)) (omega arith);
       withdrawn = λ k l gone. prices k l ∙ shown .withdrawn k l gone;
-      gains = λ i l. le-trans (same-below (gains i l) (gain-below tight maxWeight (live-light b s) i l)) (omega arith);
+      gains = λ i l. le-trans (same-below (gains i l) (gain-below tight maxWeight (live-within b s) i l)) (omega arith);
       covers = covers-as _ _ (live b) 1 (cells (after .prices)) _ (cells (after .gains)) _ prices gains (shown .covers);
     })
     ∙ ap₂ totals (weight-as _ (live b) (cells (after .plan)) _ plan ∙ best .weight) (total-as _ _ (cells (after .prices)) _ (cells (after .gains)) _ prices gains ∙ best .sum)

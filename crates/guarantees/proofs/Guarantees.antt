@@ -18,6 +18,10 @@ use Rattle.replay.proofs.Saying.{line-said, says-once, line-malformed}
 use Rattle.replay.proofs.ReplayLaws.{replay-ends, texts-demand-1, lines-reached, replay-reached, refused-before}
 use Rattle.hungarian.proofs.Exacts.{best-on, exact-is-best, exact-keeps, exact-gives-demand-3, exact-demand-1}
 use Rattle.certificate.proofs.Demand1.{check-demand-1, check-order}
+use Rattle.comparison.proofs.Demand1.{compare-demand-1, compare-order, compares-plans}
+use Rattle.comparison.proofs.Differences.{difference-exact, difference-within}
+use Rattle.comparison.proofs.Orders.{order-means, order-total, signs-tell}
+use Rattle.comparison.proofs.Outcomes.{compared-apart}
 use Rattle.history.proofs.Demand1.{plans-demand-1, sheets-demand-1}
 use Rattle.history.proofs.Laws.{plan-ends, printed-figures}
 use Rattle.history.proofs.Walls.{walls-demand-1}
@@ -27,8 +31,9 @@ use Rattle.page.proofs.WriteLaws.{write-demand-1}
 use Rattle.page.proofs.ReadLaws.{read-demand-1}
 use Rattle.page.proofs.Demand1.{page-orders}
 use Rattle.page.proofs.Laws.{writes-said, reads-said, reads-back}
-use Rattle.guarantees.specs.Guarantees.{TableFirst, QuickBids, EqualPairs, KitchenPage, SteamLine, Guarantees}
+use Rattle.guarantees.specs.Guarantees.{TableFirst, QuickBids, EqualPairs, KitchenPage, SteamLine, SideBySide, Guarantees}
 use Rattle.guarantees.proofs.Checks.{exact-accepted, equal-totals-best, read-out-accepted}
+use Rattle.guarantees.proofs.BesideExact.{no-difference-best}
 
 demand-1 : TableFirst
 demand-1 =
@@ -48,11 +53,14 @@ demand-1 =
       writes-page = write-demand-1;
       reads-page = read-demand-1;
       walls = walls-demand-1;
+      compares = compare-demand-1;
       orders = call-orders;
       check-order = check-order;
       page-orders = page-orders;
+      compare-order = compare-order;
       numbers = codes-apart;
       told = told-apart;
+      compared = compared-apart;
       arrive-ends = arrive-ends;
       withdraw-ends = withdraw-ends;
       replay-ends = replay-ends;
@@ -121,5 +129,17 @@ steam-line =
       line = line-items;
     }
 
+side-by-side : SideBySide
+side-by-side =
+    record {
+      plans = compares-plans;
+      difference = difference-exact;
+      within = difference-within;
+      order = order-means;
+      total = order-total;
+      signs = signs-tell;
+      best = no-difference-best;
+    }
+
 pub guarantees : Guarantees
-guarantees = record { demand1 = demand-1; demand2 = demand-2; demand3 = demand-3; page = kitchen-page; steam = steam-line }
+guarantees = record { demand1 = demand-1; demand2 = demand-2; demand3 = demand-3; page = kitchen-page; steam = steam-line; sides = side-by-side }

@@ -2,4 +2,5 @@
 pub mod Modest
 pub mod Bounds
 pub mod Checks
+pub mod BesideExact
 pub mod Guarantees

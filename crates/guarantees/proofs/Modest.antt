@@ -1,20 +1,17 @@
 -- On every board that a history reaches, no price and no gain is above 1,000,000,000: a bid leaves both at most q times a weight.
 use mathlib.Core.Path.{_≡_, refl}
-use mathlib.Core.Bool.{Bool, true, false, cond}
 use mathlib.Core.List.{List, [], _∷_}
-use mathlib.Core.Logic.{by-cases}
-use Prim.Native.Nat.{ℕ, zero, suc, _+_, _-_, _*_, _≤_, _<_}
-use native.Mathlib.Decide.{decLt}
+use Prim.Native.Nat.{ℕ, zero, suc, _-_, _*_, _≤_}
 use native.Mathlib.Nat.{mul-le-mul}
 use native.Mathlib.Omega.{arith}
-use lib.ListN.{getD, set, drop, replicate, length-take, List·getD-eq-default}
+use lib.ListN.{set, replicate}
 use Rattle.duality.specs.Steps.{Open}
 use Rattle.board.specs.declared.record.Auction.{Auction}
 use Rattle.board.specs.declared.record.Holder.{Holder}
 use Rattle.board.specs.declared.record.Holder.the-variants.{Held, Free}
 use Rattle.board.specs.declared.units.Scaled.{Scaled}
 use Rattle.board.specs.Limits.{maxItems, maxBidders, maxWeight, maxQ, maxPrice}
-use Rattle.board.specs.Cells.{scaled, scaledAt, priceAt, gainAt, holderAt, holderOf, withdrawnAt, rowAt}
+use Rattle.board.specs.Cells.{scaled, scaledAt, priceAt, gainAt, holderAt, holderOf}
 use Rattle.board.specs.Live.{live}
 use Rattle.board.specs.Sound.{Sound}
 use Rattle.bidding.specs.Rule.{placedAt, bidden, displaced, Chain, stays, takes, displaces}
@@ -22,8 +19,7 @@ use Rattle.board.specs.Opening.{opened}
 use Rattle.bidding.specs.Moves.{entered, released}
 use Rattle.bidding.specs.Withdrawals.{displacedIf, vacated, vacatedTo, Chains, ended, next}
 use Rattle.auction.specs.Histories.{Reached, opens, arrives, withdraws}
-use Rattle.board.proofs.Filed.{row-cell}
-use Rattle.board.proofs.LiveLaws.{weighed-edges}
+use Rattle.board.proofs.Light.{live-within}
 use Rattle.auction.proofs.Demand2.{rowOf, arrive-all, withdraw-all}
 
 pub record Modest (b : Auction) : Type 0 where
@@ -35,28 +31,8 @@ pub record Light (b : Auction) : Type 0 where
   pub q : b .market .slack .q ≤ maxQ
   pub weights : (i k : ℕ) → live b i k ≤ maxWeight
 
-cond-below : (f : Bool) (x y : ℕ) → x ≤ y → cond f 0 x ≤ y
-cond-below true x y l = omega arith
-cond-below false x y l = l
-
-pub live-light : (b : Auction) → Sound b → (i k : ℕ) → live b i k ≤ maxWeight
-live-light b s i k = cond-below (withdrawnAt b k) _ _ (by-cases (decLt k maxItems) near far)
-  where
-    near : k < maxItems → getD (rowAt b i) k 0 ≤ maxWeight
-    near lk =
-        by-cases (decLt i maxBidders)
-        (λ li. by-cases (decLt i (b .market .arrived))
-        (λ a. by-cases (decLt k (b .market .items))
-        (λ u. weighed-edges (rowAt b i) (b .market .items) (s .weights i a) k u)
-        (λ f. omega (arith, s .unused .weight i k a (omega arith) lk)))
-        (λ f. omega (arith, s .unused .row i k (omega arith) li lk)))
-        (λ f. omega (arith, row-cell (b .weights) i k lk, List·getD-eq-default (b .weights) 0 {n = i * maxItems + k} (omega (arith, s .formed .rows))))
-
-    far : (k < maxItems → ⊥) → getD (rowAt b i) k 0 ≤ maxWeight
-    far f = omega (arith, List·getD-eq-default (rowAt b i) 0 {n = k} (omega (arith, length-take maxItems (drop (i * maxItems) (b .weights)))))
-
 pub sound-light : {b : Auction} → Sound b → Light b
-sound-light {b} s = record { q = s .slack .high; weights = live-light b s }
+sound-light {b} s = record { q = s .slack .high; weights = live-within b s }
 
 -- ---- A chain of bids
 

@@ -16,6 +16,9 @@ use Rattle.replay.specs.TextDemand1.{TextsDemand1}
 use Rattle.replay.specs.ReplayLaws.{ReplayEnds, LinesReached, ReplayReached, RefusedBefore, LineItems}
 use Rattle.hungarian.specs.Demand3.{EqualExactlyWhenBestOn, ExactGivesDemand3, ExactDemand1, ExactIsBest, ExactKeeps}
 use Rattle.certificate.specs.Demand1.{CheckDemand1, CheckOrder}
+use Rattle.comparison.specs.Demand1.{CompareDemand1, CompareOrder, ComparedApart, ComparesPlans}
+use Rattle.comparison.specs.DifferenceLaws.{DifferenceExact, DifferenceWithin}
+use Rattle.comparison.specs.OrderLaws.{OrderMeans, OrderTotal, SignsTell}
 use Rattle.history.specs.Demand1.{PlansDemand1, SheetsDemand1}
 use Rattle.history.specs.Laws.{PlanEnds, PrintedFigures}
 use Rattle.history.specs.Wall.{WallsDemand1}
@@ -23,6 +26,7 @@ use Rattle.layout.specs.Statements.{RowsUnique, FirstBadUnique, FirstBadExists,
 use Rattle.page.specs.Demand1.{WriteDemand1, ReadDemand1, PageOrders}
 use Rattle.page.specs.Laws.{BoardIsPage, BoardsFit, WeightsAdd, WritesSaid, ReadsSaid, ReadsBack}
 use Rattle.guarantees.specs.Checks.{ExactAccepted, EqualTotalsBest, ReadOutAccepted}
+use Rattle.guarantees.specs.BesideExact.{NoDifferenceBest}
 
 -- Demand 1
 pub record TableFirst : Type 0 where
@@ -45,13 +49,17 @@ pub record TableFirst : Type 0 where
   pub writes-page : WriteDemand1
   pub reads-page : ReadDemand1
   pub walls : WallsDemand1
+  -- R-4: of two plans side by side
+  pub compares : CompareDemand1
   -- "by the stated order of checks": the order of each call's checks, in numbers and places
   pub orders : CallOrders
   pub check-order : CheckOrder
   pub page-orders : PageOrders
+  pub compare-order : CompareOrder
   -- "A refusal returns number and place": no two refusals have both in common, so that they name one row; and what is told names one answer
   pub numbers : CodesApart
   pub told : ToldApart
+  pub compared : ComparedApart
   -- "Every call ends."
   pub arrive-ends : ArriveEnds
   pub withdraw-ends : WithdrawEnds
@@ -146,9 +154,27 @@ pub record SteamLine : Type 0 where
   pub enough : EnoughItems
   pub line : LineItems
 
+-- R-4, two plans side by side
+pub record SideBySide : Type 0 where
+  -- The call answers a difference and an order exactly of two plans on a sound board's live sheet
+  pub plans : ComparesPlans
+  -- "the difference in pence, negative where the first is worth less": that of the weights as whole numbers, negated where the plans are exchanged; it is
+  -- 64,000,000 at most, either way
+  pub difference : DifferenceExact
+  pub within : DifferenceWithin
+  -- "the greater worth first, then by the plan's cells, the first smaller cell making the earlier plan"
+  pub order : OrderMeans
+  -- "The order must be total, and equal means the same cells."
+  pub total : OrderTotal
+  -- A difference above 0 is told with "earlier", one below with "later": the two answers never disagree
+  pub signs : SignsTell
+  -- With demand 3: a plan whose difference to the exact level's is 0 is a plan of greatest weight, and no other is
+  pub best : NoDifferenceBest
+
 pub record Guarantees : Type 0 where
   pub demand1 : TableFirst
   pub demand2 : QuickBids
   pub demand3 : EqualPairs
   pub page : KitchenPage
   pub steam : SteamLine
+  pub sides : SideBySide

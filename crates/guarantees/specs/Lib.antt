@@ -1,3 +1,4 @@
--- What is promised. Guarantees is the page to read first; Checks has laws that it names.
+-- What is promised. Guarantees is the page to read first; Checks and BesideExact have laws that it names.
 pub mod Checks
+pub mod BesideExact
 pub mod Guarantees

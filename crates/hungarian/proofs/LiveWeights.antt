@@ -10,11 +10,11 @@ use lib.ListN.{length, length-set, getD, set, List·getD-eq-default}
 use lib.Seq.{getD-set-same, getD-set-other}
 use Rattle.board.specs.declared.record.Auction.{Auction}
 use Rattle.board.specs.Limits.{maxItems, maxBidders, maxWeight}
-use Rattle.board.specs.Cells.{flagAt, withdrawnAt, rowAt}
+use Rattle.board.specs.Cells.{flagAt, withdrawnAt}
 use Rattle.board.specs.Live.{live}
 use Rattle.board.specs.Sound.{Sound}
 use Rattle.board.proofs.Filed.{row-cell}
-use Rattle.board.proofs.LiveLaws.{weighed-edges}
+use Rattle.board.proofs.Light.{live-within}
 use Rattle.hungarian.specs.Weights.{matrixAt, Light}
 use Rattle.hungarian.specs.LiveWeights.{Cleared, LiveTo}
 
@@ -87,10 +87,6 @@ live-all k w after withdrawn l u p = let e : maxItems ≡ k = omega arith in rw 
 
 -- ---- On a sound board
 
-cond-below : (f : Bool) (x y : ℕ) → x ≤ y → cond f 0 x ≤ y
-cond-below true x y l = omega arith
-cond-below false x y l = l
-
 cond-none : (f : Bool) (x : ℕ) → x ≡ 0 → cond f 0 x ≡ 0
 cond-none true x e = refl
 cond-none false x e = e
@@ -98,14 +94,6 @@ cond-none false x e = e
 module _ (b : Auction) (s : Sound b) (after : List ℕ) (p : LiveTo maxItems (b .weights) (b .market .withdrawn) after) where
   pub live-is : (i k : ℕ) → i < maxBidders → k < maxItems → matrixAt after i k ≡ live b i k
   live-is i k li lk = p .live i k li lk ∙ ap (cond (withdrawnAt b k) 0) (sym (row-cell (b .weights) i k lk))
-
-  edge-light : (i k : ℕ) → i < maxBidders → k < maxItems → getD (rowAt b i) k 0 ≤ maxWeight
-  edge-light i k li lk =
-      by-cases (decLt i (b .market .arrived))
-      (λ a. by-cases (decLt k (b .market .items))
-      (λ u. weighed-edges (rowAt b i) (b .market .items) (s .weights i a) k u)
-      (λ f. omega (arith, s .unused .weight i k a (omega arith) lk)))
-      (λ f. omega (arith, s .unused .row i k (omega arith) li lk))
 
   pub live-light : Light after
   live-light c = by-cases (decLt c (maxBidders * maxItems)) inside outside
@@ -115,8 +103,7 @@ module _ (b : Auction) (s : Sound b) (after : List ℕ) (p : LiveTo maxItems (b 
           let h = cell-of c in
           let li : h .bidder < maxBidders = omega (arith, h .here, h .near) in
           let a = live-is (h .bidder) (h .item) li (h .near) in
-          let d : live b (h .bidder) (h .item) ≤ maxWeight = cond-below (withdrawnAt b (h .item)) _ _ (edge-light (h .bidder) (h .item) li (h .near)) in
-          rw (h .here, a) d
+          rw (h .here, a) (live-within b s (h .bidder) (h .item))
 
       outside : (c < maxBidders * maxItems → ⊥) → getD after c 0 ≤ maxWeight
       outside f = omega (arith, List·getD-eq-default after 0 {n = c} (omega (arith, p .size, s .formed .rows)))

@@ -28,6 +28,14 @@ module _ (checks : ℕ → List Check) where
       let u = served-both (checks i) (eachChecks checks (suc i) n) e in
       ⊎-elim (λ (q : i ≡ j). rw q at (u .0)) (λ m. each-served (suc i) n (u .1) j m (omega arith)) (eq-or-lt-of-le l)
 
+  -- Where each is served, all are
+  pub each-serves : (i n : ℕ) → ((j : ℕ) → i ≤ j → j < i + n → firstOf (checks j) ≡ Served) → firstOf (eachChecks checks i n) ≡ Served
+  unfolding eachChecks firstOf
+  each-serves i zero h = refl
+  each-serves i (suc n) h =
+      first-on (checks i) (eachChecks checks (suc i) n) (h i (omega arith) (omega arith)) ∙
+      each-serves (suc i) n (λ j l m. h j (omega arith) (omega arith))
+
   -- The checks of the first m cells stand before those of the others
   pub each-split : (m n i : ℕ) → eachChecks checks i (m + n) ≡ eachChecks checks i m ++ eachChecks checks (i + m) n
   unfolding eachChecks

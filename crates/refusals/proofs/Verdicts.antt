@@ -154,6 +154,13 @@ first-stops (c ∷ checks) rest r e = go (c .test) e (first-stops checks rest r)
     go true e f = e
     go false e f = f e
 
+-- A verdict on the first part stands, or leaves it to the second
+pub stops : (xs ys : List Check) (v : Verdict) (r : Refusal) → v ≡ firstOf xs → v ≡ Refused r → v ≡ firstOf (xs ++ ys)
+stops xs ys v r e s = s ∙ sym (first-stops xs ys r (sym e ∙ s))
+
+pub passes-on : (xs ys : List Check) (v w : Verdict) → v ≡ firstOf xs → v ≡ Served → w ≡ firstOf ys → w ≡ firstOf (xs ++ ys)
+passes-on xs ys v w e s h = h ∙ sym (first-on xs ys (sym e ∙ s))
+
 -- Both are served
 pub served-both : (xs ys : List Check) → firstOf (xs ++ ys) ≡ Served → (firstOf xs ≡ Served) × (firstOf ys ≡ Served)
 served-both xs ys e = go (firstOf xs) refl

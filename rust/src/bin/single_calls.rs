@@ -37,6 +37,15 @@ fn withdraw_half(board: Auction) -> Answer {
     withdraw(board, &items)
 }
 
+/// The board's own plan, without a call that reads it out.
+fn plan_of(board: &Auction) -> Vec<u64> {
+    let mut plan = vec![0; board.arrived as usize];
+    for (item, &holder) in board.holder.iter().enumerate().filter(|(_, &holder)| holder != 0) {
+        plan[holder as usize - 1] = item as u64 + 1;
+    }
+    plan
+}
+
 fn main() {
     let board = full_board();
     let mut plan = [0; MAX_BIDDERS];
@@ -53,7 +62,11 @@ fn main() {
     println!("arrive without edges {}", arrive_buffer(black_box(board), none).number);
     let text = dense();
     let mut page = vec![0; MAX_OUTPUT];
-    println!("replay {}", replay(black_box(&text)).value);
+    let replayed = replay(black_box(&text));
+    println!("replay {}", replayed.value);
+    // All 128 bidders with every edge, and one plan twice, so that every cell is compared.
+    let own = plan_of(&replayed.board);
+    println!("its plan beside itself {}", compare(black_box(replayed.board), &own, &own).order);
     println!("plan of the text {}", plan_text(black_box(&text), &mut page).value);
     println!("what is printed of it {}", sheet_text(black_box(&text), &mut page).value);
     println!("its page {}", page_text(black_box(&text), &mut page).value);

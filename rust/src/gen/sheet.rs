@@ -75,6 +75,16 @@ pub fn board(rng: &mut Rng, mut sheet: Sheet, items: u64, withdrawals: u64) -> R
     to_record(&auction)
 }
 
+/// The weights of a board's live edges.
+pub fn live(r: &Record) -> Sheet {
+    let weight = |bidder: usize, item: usize| match r.is_gone(item) {
+        true => 0,
+        false => r.rows[bidder][item] as u64,
+    };
+    let row = |bidder: usize| (0..r.items as usize).map(|item| weight(bidder, item)).collect();
+    (0..r.arrived as usize).map(row).collect()
+}
+
 /// A row's edges in rising order.
 pub fn edges(row: &[u64]) -> Vec<Edge> {
     let cells = row.iter().enumerate().filter(|(_, &weight)| weight != 0);

@@ -3,6 +3,7 @@
 
 use super::auction::*;
 use super::check::{check, Claim, Totals};
+use super::compare::{compare, Comparison};
 use super::hungarian;
 use super::refusal::*;
 use super::sound::{from_record, to_record, Record};
@@ -57,6 +58,15 @@ pub fn exact_record(
 
 pub fn check_record(record: &Record, claim: &Claim) -> Result<Totals, Refusal> {
     check(&from_record(record)?, claim)
+}
+
+/// "Answers: 13, then" those of the plans.
+pub fn compare_record(
+    record: &Record,
+    first: &[u64],
+    second: &[u64],
+) -> Result<Comparison, Refusal> {
+    compare(&from_record(record)?, first, second)
 }
 
 /// "Answers when writing: 8 if the lent page is too short, after 13. Writing returns

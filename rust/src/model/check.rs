@@ -1,6 +1,7 @@
 //! The check of a matching and a cover made elsewhere.
 
 use super::auction::*;
+use super::matching::{admit, weight};
 use super::refusal::*;
 
 pub const MAX_PRICE: u64 = 1_000_000_000;
@@ -30,9 +31,7 @@ pub fn check(auction: &Auction, claim: &Claim) -> Result<Totals, Refusal> {
     if !even(auction, claim) {
         return refuse(UNEVEN, 0);
     }
-    if let Some(bidder) = (0..claim.matching.len()).find(|&b| clashes(auction, claim, b)) {
-        return refuse(CLASH, bidder as u64 + 1);
-    }
+    admit(auction, &claim.matching)?;
     if let Some(place) = bad_price(auction, claim) {
         return refuse(PRICE, place);
     }
@@ -46,18 +45,6 @@ fn even(auction: &Auction, claim: &Claim) -> bool {
     claim.matching.len() == auction.bidders.len()
         && claim.price.len() == auction.items.len()
         && claim.gain.len() == auction.bidders.len()
-}
-
-fn weight_at(auction: &Auction, bidder: usize, item: u64) -> Option<u64> {
-    let edges = &auction.bidders[bidder].edges;
-    edges.iter().find(|e| e.item == item && auction.is_live(**e)).map(|e| e.weight)
-}
-
-/// The cell is not 0 and is no live edge of this bidder, or an earlier one has it.
-fn clashes(auction: &Auction, claim: &Claim, bidder: usize) -> bool {
-    let cell = claim.matching[bidder];
-    let taken = claim.matching[..bidder].contains(&cell);
-    cell != 0 && (taken || weight_at(auction, bidder, cell).is_none())
 }
 
 /// The first price, else the first gain, that is above the limit or stands at
@@ -80,7 +67,6 @@ fn is_bare(auction: &Auction, claim: &Claim, bidder: usize) -> bool {
 }
 
 fn totals(auction: &Auction, claim: &Claim) -> Totals {
-    let cells = claim.matching.iter().enumerate();
-    let weight = cells.filter_map(|(b, &item)| weight_at(auction, b, item)).sum();
-    Totals { weight, sum: claim.price.iter().chain(&claim.gain).sum() }
+    let sum = claim.price.iter().chain(&claim.gain).sum();
+    Totals { weight: weight(auction, &claim.matching), sum }
 }

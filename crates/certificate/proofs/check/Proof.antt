@@ -19,7 +19,8 @@ use Rattle.certificate.specs.Check.{Even, evenTest, checkBy, checkOf}
 use Rattle.certificate.specs.Accepted.{Accepted}
 use Rattle.certificate.proofs.Tests.{lists-even}
 use Rattle.certificate.proofs.Outcomes.{listsOf, check-spoilt, check-slack, check-uneven, check-lists, lists-refused, lists-served}
-use Rattle.certificate.proofs.Accepted.{cell-within, lists-accepted}
+use Rattle.matching.proofs.Plans.{cell-within}
+use Rattle.certificate.proofs.Accepted.{lists-accepted}
 use borrow.Author.Needs.{needs}
 use Rattle.certificate.proofs.check.Statement.{statement}
 use Rattle.certificate.proofs.check.Tie as tie

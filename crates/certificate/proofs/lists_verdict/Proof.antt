@@ -7,9 +7,10 @@ use Rattle.duality.specs.Lists.{cells}
 use Rattle.refusals.specs.declared.Verdict.{Verdict}
 use Rattle.refusals.specs.Demand1.{Check, firstOf}
 use Rattle.board.specs.Live.{liveOf}
-use Rattle.certificate.specs.Check.{clashChecks, priceChecks, gainChecks, bareChecks, listChecks}
+use Rattle.matching.specs.Clash.{clashChecks}
+use Rattle.certificate.specs.Check.{priceChecks, gainChecks, bareChecks, listChecks}
 use Rattle.certificate.proofs.Served.{price-served, gain-served}
-use Rattle.certificate.proofs.Outcomes.{stops, passes}
+use Rattle.refusals.proofs.Verdicts.{stops, passes-on}
 use borrow.Author.Needs.{needs}
 use Rattle.certificate.proofs.lists_verdict.Statement.{statement}
 use Rattle.certificate.proofs.lists_verdict.Tie as tie
@@ -33,29 +34,29 @@ gained c = c .before .before .before
 abbrev clashes : tie.Start → List Check
 clashes c =
     let a = c .args in
-    clashChecks (length (a .prices .now)) (liveOf (a .withdrawn .now) (a .weights .now)) (cells (a .plan .now)) 0 (length (a .plan .now))
+    clashChecks (length (a .prices .now)) (liveOf (a .withdrawn .now) (a .weights .now)) (cells (a .plan .now)) (length (a .plan .now))
 
 abbrev highs : tie.Start → List Check
-highs c = let a = c .args in priceChecks (a .withdrawn .now) (cells (a .prices .now)) 0 (length (a .prices .now))
+highs c = let a = c .args in priceChecks (a .withdrawn .now) (cells (a .prices .now)) (length (a .prices .now))
 
 plan-passed : (c : tie.After-enum-told) {v : Verdict} (rest : List Check) → v ≡ firstOf rest → v ≡ firstOf (clashes (start (c .before .before)) ++ rest)
-plan-passed c rest e = passes _ _ _ _ (c .before .before .plan-verdict .ensures) (c .enum-told .given .1) e
+plan-passed c rest e = passes-on _ _ _ _ (c .before .before .plan-verdict .ensures) (c .enum-told .given .1) e
 
 prices-passed : (c : tie.After-enum-told3) {v : Verdict} (rest : List Check) → v ≡ firstOf rest →
     v ≡ firstOf (highs (start (planned (c .before .before))) ++ rest)
-prices-passed c rest e = passes _ _ _ _ (c .before .before .prices-verdict .ensures) (c .enum-told3 .given .1) e
+prices-passed c rest e = passes-on _ _ _ _ (c .before .before .prices-verdict .ensures) (c .enum-told3 .given .1) e
 
 -- There are as many gains as cells of the plan
 gains-verdict : (c : tie.After-gains-verdict) →
     let a = start (planned (priced c)) .args in
-    c .gains-verdict .result ≡ firstOf (gainChecks (length (a .prices .now)) (cells (a .gains .now)) 0 (length (a .plan .now)))
+    c .gains-verdict .result ≡ firstOf (gainChecks (length (a .prices .now)) (cells (a .gains .now)) (length (a .plan .now)))
 gains-verdict c = rw (start (planned (priced c)) .pre .2) at (c .gains-verdict .ensures)
 
 cover-verdict : (c : tie.After-cover-verdict) →
     let a = start (planned (priced (gained c))) .args in
     let live = liveOf (a .withdrawn .now) (a .weights .now) in
     c .cover-verdict .result ≡
-    firstOf (bareChecks (length (a .prices .now)) live (a .slack .p) (a .slack .q) (cells (a .prices .now)) (cells (a .gains .now)) 0 (length (a .plan .now)))
+    firstOf (bareChecks (length (a .prices .now)) live (a .slack .p) (a .slack .q) (cells (a .prices .now)) (cells (a .gains .now)) (length (a .plan .now)))
 cover-verdict c = rw (start (planned (priced (gained c))) .pre .2) at (c .cover-verdict .ensures)
 
 -- ---- The needs
@@ -119,7 +120,7 @@ returns-4 : tie.Need-returns-4
 unfolding listChecks
 returns-4 c =
     let at = gained c in
-    plan-passed (priced at .before) _ (prices-passed (at .before) _ (passes _ _ _ _ (gains-verdict at) (c .before .enum-told5 .given .1) (cover-verdict c)))
+    plan-passed (priced at .before) _ (prices-passed (at .before) _ (passes-on _ _ _ _ (gains-verdict at) (c .before .enum-told5 .given .1) (cover-verdict c)))
 
 pub lists-verdict-spec : {M : Type 1} → statement M
 lists-verdict-spec =

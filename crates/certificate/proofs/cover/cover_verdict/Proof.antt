@@ -9,14 +9,14 @@ use Rattle.duality.specs.Lists.{cells}
 use Rattle.refusals.specs.declared.Refusal.the-variants.{Bare}
 use Rattle.certificate.specs.Check.{coveredTest}
 use Rattle.board.specs.Live.{liveOf}
-use Rattle.certificate.proofs.Places.{Left, left-all, left-on, left-stops, left-ends, bare-each}
+use Rattle.refusals.proofs.Places.{Passed, cell-start, cell-end, cell-on, cell-stops}
 use borrow.Author.Needs.{needs}
 use Rattle.certificate.proofs.cover.cover_verdict.Statement.{statement}
 use Rattle.certificate.proofs.cover.cover_verdict.Tie as tie
 
 abbrev Inv-loop : tie.InvT-loop
 Inv-loop weights withdrawn slack prices gains i₀ i =
-    Left
+    Passed
     (λ j. Bare (suc j))
     (λ j. coveredTest (length prices) (liveOf withdrawn weights j) (slack .p) (slack .q) (cells prices) (cells gains j))
     (length gains)
@@ -36,7 +36,7 @@ inside c = c .before .before
 -- ---- The needs
 
 loop-holds : tie.Need-loop-holds Inv-loop μ-loop
-loop-holds c = left-all
+loop-holds c = cell-start
 
 mul-row-covered : tie.Need-mul-row-covered Inv-loop μ-loop
 mul-row-covered c = search needs
@@ -57,7 +57,7 @@ returns : tie.Need-returns Inv-loop μ-loop
 returns c =
     let at = inside (c .before) in
     let bare = sym (c .before .row-covered .ensures) ∙ not-true _ (c .if1 .taken) in
-    rw (bare-each, add-one) (left-stops (at .before .loop .inv) (at .loop-test .taken) bare)
+    rw add-one (cell-stops (at .before .loop .inv) (at .loop-test .taken) bare)
 
 add-i : tie.Need-add-i Inv-loop μ-loop
 add-i c = search needs
@@ -68,10 +68,10 @@ loop-less c = search needs
 loop-again : tie.Need-loop-again Inv-loop μ-loop
 loop-again c =
     let at = inside (c .before) in
-    left-on (at .before .loop .inv) (at .loop-test .taken) (sym (c .before .row-covered .ensures) ∙ not-false _ (c .if1 .left))
+    cell-on (at .before .loop .inv) (at .loop-test .taken) (sym (c .before .row-covered .ensures) ∙ not-false _ (c .if1 .left))
 
 returns-2 : tie.Need-returns-2 Inv-loop μ-loop
-returns-2 c = rw bare-each (left-ends (c .before .loop .inv) (c .loop-test .left))
+returns-2 c = cell-end (c .before .loop .inv) (c .loop-test .left)
 
 pub cover-verdict-spec : {M : Type 1} → statement M
 cover-verdict-spec =

@@ -8,19 +8,19 @@ use lib.Dec.{leb}
 use Rattle.duality.specs.Lists.{cells}
 use Rattle.refusals.specs.declared.Refusal.the-variants.{Price}
 use Rattle.board.specs.Limits.{maxPrice}
-use Rattle.certificate.proofs.Places.{Left, left-all, left-on, left-stops, left-ends, gain-each}
+use Rattle.refusals.proofs.Places.{Passed, cell-start, cell-end, cell-on, cell-stops}
 use Rattle.certificate.proofs.cover.gains_verdict.Statement.{statement}
 use Rattle.certificate.proofs.cover.gains_verdict.Tie as tie
 
 abbrev Inv-loop : tie.InvT-loop
 Inv-loop items gains i₀ i =
-    Left (λ j. Price (items + suc j)) (λ j. leb (cells gains j) maxPrice) (length gains) i
+    Passed (λ j. Price (items + suc j)) (λ j. leb (cells gains j) maxPrice) (length gains) i
 
 abbrev μ-loop : tie.MeasureT-loop
 μ-loop items gains i₀ i = length gains - i
 
 loop-holds : tie.Need-loop-holds Inv-loop μ-loop
-loop-holds c = left-all
+loop-holds c = cell-start
 
 mul-if1 : tie.Need-mul-if1 Inv-loop μ-loop
 mul-if1 c = search needs
@@ -36,7 +36,7 @@ add-t10 c = search needs
 
 returns : tie.Need-returns Inv-loop μ-loop
 returns c =
-    rw (gain-each, add-one) (left-stops (c .before .before .before .loop .inv) (c .before .before .loop-test .taken) (lt-leb _ _ (c .if1 .taken)))
+    rw add-one (cell-stops (c .before .before .before .loop .inv) (c .before .before .loop-test .taken) (lt-leb _ _ (c .if1 .taken)))
 
 add-i : tie.Need-add-i Inv-loop μ-loop
 add-i c = search needs
@@ -45,10 +45,10 @@ loop-less : tie.Need-loop-less Inv-loop μ-loop
 loop-less c = search needs
 
 loop-again : tie.Need-loop-again Inv-loop μ-loop
-loop-again c = left-on (c .before .before .before .loop .inv) (c .before .before .loop-test .taken) (le-leb _ _ (c .if1 .left))
+loop-again c = cell-on (c .before .before .before .loop .inv) (c .before .before .loop-test .taken) (le-leb _ _ (c .if1 .left))
 
 returns-2 : tie.Need-returns-2 Inv-loop μ-loop
-returns-2 c = rw gain-each (left-ends (c .before .loop .inv) (c .loop-test .left))
+returns-2 c = cell-end (c .before .loop .inv) (c .loop-test .left)
 
 pub gains-verdict-spec : {M : Type 1} → statement M
 gains-verdict-spec =

@@ -7,13 +7,13 @@ use lib.ListN.{length}
 use Rattle.duality.specs.Lists.{cells}
 use Rattle.refusals.specs.declared.Refusal.the-variants.{Price}
 use Rattle.certificate.specs.Check.{priceTest}
-use Rattle.certificate.proofs.Places.{Left, left-all, left-on, left-stops, left-ends, price-each}
+use Rattle.refusals.proofs.Places.{Passed, cell-start, cell-end, cell-on, cell-stops}
 use borrow.Author.Needs.{needs}
 use Rattle.certificate.proofs.cover.prices_verdict.Statement.{statement}
 use Rattle.certificate.proofs.cover.prices_verdict.Tie as tie
 
 abbrev Inv-loop : tie.InvT-loop
-Inv-loop withdrawn prices k₀ k = Left (λ j. Price (suc j)) (priceTest withdrawn (cells prices)) (length prices) k
+Inv-loop withdrawn prices k₀ k = Passed (λ j. Price (suc j)) (priceTest withdrawn (cells prices)) (length prices) k
 
 abbrev μ-loop : tie.MeasureT-loop
 μ-loop withdrawn prices k₀ k = length prices - k
@@ -36,7 +36,7 @@ holds c = sym (c .price-holds .ensures)
 -- ---- The needs
 
 loop-holds : tie.Need-loop-holds Inv-loop μ-loop
-loop-holds c = left-all
+loop-holds c = cell-start
 
 mul-price-holds : tie.Need-mul-price-holds Inv-loop μ-loop
 mul-price-holds c = search needs
@@ -56,7 +56,7 @@ add-t14 c = search needs
 returns : tie.Need-returns Inv-loop μ-loop
 returns c =
     let at = inside (c .before) in
-    rw (price-each, add-one) (left-stops (at .before .loop .inv) (at .loop-test .taken) (holds (c .before) ∙ not-true _ (c .if1 .taken)))
+    rw add-one (cell-stops (at .before .loop .inv) (at .loop-test .taken) (holds (c .before) ∙ not-true _ (c .if1 .taken)))
 
 add-k : tie.Need-add-k Inv-loop μ-loop
 add-k c = search needs
@@ -67,10 +67,10 @@ loop-less c = search needs
 loop-again : tie.Need-loop-again Inv-loop μ-loop
 loop-again c =
     let at = inside (c .before) in
-    left-on (at .before .loop .inv) (at .loop-test .taken) (holds (c .before) ∙ not-false _ (c .if1 .left))
+    cell-on (at .before .loop .inv) (at .loop-test .taken) (holds (c .before) ∙ not-false _ (c .if1 .left))
 
 returns-2 : tie.Need-returns-2 Inv-loop μ-loop
-returns-2 c = rw price-each (left-ends (c .before .loop .inv) (c .loop-test .left))
+returns-2 c = cell-end (c .before .loop .inv) (c .loop-test .left)
 
 pub prices-verdict-spec : {M : Type 1} → statement M
 prices-verdict-spec =
