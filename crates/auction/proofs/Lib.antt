@@ -1,5 +1,6 @@
 -- Proofs of the statements in specs/, and the laws that the functions' proofs cite.
 pub mod Buffers
+pub mod BySlides
 pub mod CallVerdicts
 pub mod Demand1
 pub mod Demand2

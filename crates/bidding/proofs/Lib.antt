@@ -1,4 +1,5 @@
 -- Proofs of the statements in specs/, and the laws that the functions' proofs cite.
+pub mod AboveFloors
 pub mod Bids
 pub mod Chains
 pub mod Choices
@@ -11,8 +12,11 @@ pub mod Offers
 pub mod Placed
 pub mod Potentials
 pub mod Rolls
+pub mod Running
+pub mod Slides
 pub mod Starts
 pub mod Turns
+pub mod Units
 pub mod Vacating
 pub mod Waiting
 pub mod Withdrawing

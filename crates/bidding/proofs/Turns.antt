@@ -6,7 +6,6 @@ use native.Mathlib.Nat.{mul-le-mul, le-trans, div-le-self}
 use native.Mathlib.Omega.{arith}
 use lib.ListN.{length, take, drop, length-take, length-drop}
 use mathlib.Core.List.{List}
-use Rattle.bidding.specs.declared.rule.BestEdge.{BestEdge}
 use Rattle.duality.proofs.Sums.{sumTo-most}
 use Rattle.duality.specs.Steps.{utility, most}
 use Rattle.board.specs.declared.record.Auction.{Auction}
@@ -16,10 +15,10 @@ use Rattle.board.specs.declared.record.Holder.the-variants.{Held, Free}
 use Rattle.bidding.specs.declared.rule.BestEdge.the-variants.{At, Nothing}
 use Rattle.board.specs.Limits.{maxItems, maxBidders, maxWeight, maxQ}
 use Rattle.board.specs.Cells.{pence, scaled, priceAt, holderAt, holderOf, weightAt, withdrawnAt, rowIn}
-use Rattle.board.specs.Live.{live, liveIn}
+use Rattle.board.specs.Live.{live}
 use Rattle.bidding.specs.Potential.{one, edgeCount, potential, bidLimit}
-use Rattle.bidding.specs.Rule.{bestFor, placedAt, bidden, displaced, settleOf, fuelOf, afterChain, done, bestOf}
-use Rattle.bidding.specs.Waiting.{Ready}
+use Rattle.bidding.specs.Rule.{bestFor, bidden, displaced, settleOf, fuelOf, afterChain, done}
+use Rattle.bidding.specs.Waiting.{SoundBut, Ready}
 use Rattle.bidding.proofs.Choices.{best-at}
 use Rattle.bidding.proofs.Bids.{chosen-admissible}
 use Rattle.bidding.proofs.Potentials.{potential-within, bid-raises, potential-displaced}
@@ -49,14 +48,20 @@ pub record Going (b₀ : Auction) (i₀ : ℕ) (b : Auction) (i bids : ℕ) : Ty
 pub going-starts : {b : Auction} {i : ℕ} → Ready b i → Going b i b i 0
 going-starts {b} {i} r = record { ready = r; limit = refl; made = omega arith; same = let z : fuelOf b - 0 ≡ fuelOf b = omega arith in rw z }
 
--- What a bid finds: cells of the board, a weight and a price within limits
+-- The weight of a live edge
+pub live-small : {waits : ℕ → Type 0} {b : Auction} → SoundBut waits b → (i k : ℕ) → i < b .market .arrived → k < b .market .items → live b i k ≤ maxWeight
+live-small {b = b} s i k li lk = go (withdrawnAt b k) (s .weights i k li lk)
+  where
+    go : (t : Bool) → weightAt b i k ≤ maxWeight → cond t 0 (weightAt b i k) ≤ maxWeight
+    go true h = omega arith
+    go false h = h
+
+-- What a bid finds: an item, its weight within the limit, and its utility
 pub record Found (b : Auction) (i k : ℕ) (v : Pence) (u : Scaled) : Type 0 where
-  pub bidder : i < maxBidders
   pub item : k < maxItems
   pub weight : v ≡ pence (live b i k)
   pub small : v .0 ≤ maxWeight
   pub utility : u ≡ scaled (utility (b .market .slack .q) (live b i k) (priceAt b k))
-  pub within : priceAt b k + b .market .slack .p * v .0 < maxQ * maxWeight
 
 module _ {b₀ : Auction} {i₀ : ℕ} {b : Auction} {i bids : ℕ} (g : Going b₀ i₀ b i bids) where
   within-limit : bids ≤ bidLimit b₀
@@ -84,44 +89,28 @@ module _ {b₀ : Auction} {i₀ : ℕ} {b : Auction} {i bids : ℕ} (g : Going b
         let a = best-at _ _ _ _ _ k v u e in
         let s = g .ready .sound in
         let w : v .0 ≡ live b i k = ap (λ (x : Pence). x .0) (a .weight) in
-        let small : v .0 ≤ maxWeight = rw w (live-small k (a .chosen .item)) in
-        let top : b .market .slack .q * v .0 ≤ maxQ * maxWeight = mul-le-mul (s .slack .high) small in
         record {
-          bidder = omega (arith, g .ready .bidder, s .arrived);
           item = omega (arith, a .chosen .item, s .items);
           weight = a .weight;
-          small = small;
+          small = rw w (live-small s i k (g .ready .bidder) (a .chosen .item));
           utility = a .utility;
-          within = rw w (omega (arith, a .chosen .«open», rw w at top));
         }
-      where
-        live-small : (k : ℕ) → k < b .market .items → live b i k ≤ maxWeight
-        live-small k l = go (withdrawnAt b k) (g .ready .sound .weights i k (g .ready .bidder) l)
-          where
-            go : (t : Bool) → weightAt b i k ≤ maxWeight → cond t 0 (weightAt b i k) ≤ maxWeight
-            go true h = omega arith
-            go false h = h
 
-    -- r is the step of the price, as the code has it
-    module _ (r : ℕ) (er : r ≡ b .market .slack .p * v .0) where
-      after : placedAt b i k (u .0) (priceAt b k + r) ≡ bidden b i k
-      after = rw (er, found .utility, found .weight)
+    -- c is the board that the steps of the bid leave. The item was free
+    pub turn-ends : (c : Auction) → c ≡ bidden b i k → holderOf (holderAt b k) ≡ Free → done (afterChain c (bids + 1)) ≡ settleOf (fuelOf b₀) b₀ i₀ 0
+    turn-ends c after f = rw after (sym (rw turns (settle-free _ b i bids k v u e f)) ∙ g .same)
 
-      -- The item was free
-      pub turn-ends : holderOf (holderAt b k) ≡ Free → done (afterChain (placedAt b i k (u .0) (priceAt b k + r)) (bids + 1)) ≡ settleOf (fuelOf b₀) b₀ i₀ 0
-      turn-ends f = rw after (sym (rw turns (settle-free _ b i bids k v u e f)) ∙ g .same)
-
-      -- The item was held, and its holder bids next
-      pub turn-on : (x : ℕ) → holderOf (holderAt b k) ≡ Held x → Going b₀ i₀ (displaced (placedAt b i k (u .0) (priceAt b k + r)) x) x (bids + 1)
-      turn-on x f =
-          let a = chosen-admissible (best-at _ _ _ _ _ k v u e .chosen) in
-          let fuel : fuelOf b₀ - (bids + 1) ≡ bidLimit b₀ - bids = omega (arith, within-limit) in
-          rw after (record {
-            ready = ready-on (g .ready) e f;
-            limit = limit-on b i k x ∙ g .limit;
-            made = omega (arith, g .made, bid-raises _ b i k _ _ (g .ready .sound) (g .ready .bidder) a, potential-displaced (bidden b i k) x);
-            same = rw fuel (sym (settle-held _ b i bids k v u e x f) ∙ (sym (rw turns) ∙ g .same));
-          })
+    -- The item was held, and its holder bids next
+    pub turn-on : (c : Auction) (x : ℕ) → c ≡ displaced (bidden b i k) x → holderOf (holderAt b k) ≡ Held x → Going b₀ i₀ c x (bids + 1)
+    turn-on c x after f =
+        let a = chosen-admissible (best-at _ _ _ _ _ k v u e .chosen) in
+        let fuel : fuelOf b₀ - (bids + 1) ≡ bidLimit b₀ - bids = omega (arith, within-limit) in
+        rw after (record {
+          ready = ready-on (g .ready) e f;
+          limit = limit-on b i k x ∙ g .limit;
+          made = omega (arith, g .made, bid-raises _ b i k _ _ (g .ready .sound) (g .ready .bidder) a, potential-displaced (bidden b i k) x);
+          same = rw fuel (sym (settle-held _ b i bids k v u e x f) ∙ (sym (rw turns) ∙ g .same));
+        })
 
 -- A bidder's row is a part of the weights
 pub row-part : (w : List ℕ) (i : ℕ) → take (i * maxItems + maxItems - i * maxItems) (drop (i * maxItems) w) ≡ rowIn w i
@@ -129,9 +118,3 @@ row-part w i = let e : i * maxItems + maxItems - i * maxItems ≡ maxItems = ome
 
 pub row-part-length : (w : List ℕ) (i : ℕ) → i < maxBidders → length w ≡ maxBidders * maxItems → length (take (i * maxItems + maxItems - i * maxItems) (drop (i * maxItems) w)) ≡ maxItems
 row-part-length w i l e = rw (row-part w i) (omega (arith, length-take maxItems (drop (i * maxItems) w), length-drop (i * maxItems) w))
-
-pub best-of-part : (b : Auction) (i : ℕ) (r : BestEdge) →
-    r ≡ bestOf (b .market .slack .p) (b .market .slack .q) (liveIn (take (i * maxItems + maxItems - i * maxItems) (drop (i * maxItems) (b .weights))) (b .market .withdrawn))
-    (priceAt b) (b .market .items) →
-    bestFor b i ≡ r
-best-of-part b i r e = sym (e ∙ ap (λ ws. bestOf (b .market .slack .p) (b .market .slack .q) (liveIn ws (b .market .withdrawn)) (priceAt b) (b .market .items)) (row-part (b .weights) i))

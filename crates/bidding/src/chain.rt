@@ -1,12 +1,17 @@
 // The chain of bids that a bidder begins, and the chains of several, one after the other.
+use crate::book::gains_of;
+use crate::book::prices_of;
+use crate::book::state_of;
+use crate::floors::floors_of;
 use crate::rule::BestEdge;
-use crate::rule::best_open;
+use crate::rule::hand_over;
+use crate::rule::pick;
+use crate::rule::raise;
+use crate::rule::test_open;
 use board::record::Auction;
 use board::record::Holder;
 use board::record::Market;
 use board::record::State;
-use board::record::holder_of;
-use board::units::Scaled;
 ghost use mathlib.Core.Path.{_≡_};
 ghost use mathlib.Core.Bool.{true};
 ghost use Rattle.board.specs.Cells.{auction, flagAt};
@@ -20,7 +25,8 @@ pub struct ChainEnd {
     pub bids: u64,
 }
 
-// The chain of bids that a bidder begins, in place.
+// The chain of bids that a bidder begins. The slide: "While ∃ v ∈ V unallocated". Its four steps in turn (rule.rt), until an item was free or nothing is
+// open.
 pub fn settle(
     market: Market,
     weights: &[u32; Auction::MAX_CELLS],
@@ -33,36 +39,37 @@ pub fn settle(
 {
     let rows: &[u32] = weights;
     let items = market.items as usize;
-    let slack = market.slack;
+    let price = state.price;
+    let gain = state.gain;
+    let mut prices = prices_of(price);
+    let mut holders = state.holder;
+    let mut gains = gains_of(gain);
+    let mut floors = floors_of(&prices, market);
+    let mut tested = [0u32; Auction::MAX_ITEMS];
     let mut next = bidder;
     let mut bids: u64 = 0;
     loop {
         let from = next * Auction::MAX_ITEMS;
-        let prices = state.price;
-        let best = best_open(
-            &rows[from..from + Auction::MAX_ITEMS],
-            prices,
-            &market.withdrawn,
-            items,
-            slack,
-        );
+        let row = &rows[from..from + Auction::MAX_ITEMS];
+        test_open(&mut tested, row, &floors, items);
+        let slack = market.slack;
+        let best = pick(&tested, &prices, items, slack);
         let BestEdge::At {
             item,
             weight,
             utility,
         } = best
         else {
+            state = state_of(prices, holders, gains);
             return ChainEnd { state, bids };
         };
-        state.gain[next] = utility;
-        state.price[item] = Scaled(state.price[item].0 + slack.step(weight).0);
-        let holder = holder_of(state.holder[item]);
-        state.holder[item] = (next + 1) as u8;
+        raise(&mut prices, &mut floors, item, weight, slack);
+        let holder = hand_over(&mut holders, &mut gains, item, next, utility);
         bids += 1;
         let Holder::Held(displaced) = holder else {
+            state = state_of(prices, holders, gains);
             return ChainEnd { state, bids };
         };
-        state.gain[displaced] = Scaled(0);
         next = displaced;
     }
 }

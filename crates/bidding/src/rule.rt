@@ -1,19 +1,32 @@
-// The rule: the best open edge of a bidder.
+// A bid, as the slides have it (source document 002, "Multiplicative Auction Algorithm"): "While ∃ v ∈ V unallocated, util(uv) > ε · w(uv), v bids
+// y_u + ε · w(uv) and allocated max util u". Here v is the bidder, u an item, y_u its price, and ε the slack p/q; all in q-ths of a penny, so that
+// util(uv) = w(uv) - y_u is q × w - y, and ε · w(uv) is p × w. A function for each step, in the order in which `settle` calls them: test open edges, pick,
+// price, hand over. "While ∃ v ∈ V unallocated" is the loop of `settle`, and that of `settle_all`
+// where a list of items was withdrawn.
+use crate::floors::floor_of;
 use board::record::Auction;
+use board::record::Holder;
+use board::record::holder_of;
 use board::units::Pence;
 use board::units::Scaled;
 use board::units::Slack;
 use board::units::weight_in;
 ghost use mathlib.Core.Path.{_≡_};
-ghost use mathlib.Core.Bool.{cond, not};
-ghost use Prim.Native.Nat.{_≤_, _<_};
-ghost use lib.ListN.{length};
-ghost use Rattle.board.specs.Limits.{maxItems, maxQ, wordLimit};
-ghost use Rattle.board.specs.Cells.{scaledAt};
+ghost use mathlib.Core.Bool.{cond, _||_};
+ghost use mathlib.Core.List.{List};
+ghost use Prim.Native.Nat.{ℕ, _+_, _*_, _≤_, _<_};
+ghost use lib.ListN.{length, set};
+ghost use lib.Dec.{ltb};
+ghost use Rattle.duality.specs.Lists.{cells};
+ghost use Rattle.board.specs.Limits.{maxItems, maxBidders, maxQ, wordLimit};
+ghost use Rattle.board.specs.Cells.{holderOf};
 ghost use Rattle.board.specs.Live.{liveIn};
-ghost use Rattle.bidding.specs.Rule.{beats, offerOf, bestOf};
+ghost use Rattle.board.specs.Lent.{written};
+ghost use Rattle.bidding.specs.Floors.{floorOf, Floors, Weighs};
+ghost use Rattle.bidding.specs.Slides.{testOpen, takeOf, pickOf, raisedTo, handedTo, gainsTo};
+ghost use Rattle.bidding.specs.Leader.{edgeOf, LeaderFits};
 
-// The best open edge among the items looked at.
+// The edge that is picked.
 pub enum BestEdge {
     At {
         item: usize,
@@ -23,81 +36,150 @@ pub enum BestEdge {
     Nothing,
 }
 
-// Whether an edge does not go before the best so far: its utility is less, or equal and its weight no more.
-fn is_beaten(utility: Scaled, weight: Pence, best: BestEdge) -> bool
-    ensures { λ r. ⌜ r ≡ not (beats (utility .0) (weight .0) best) ⌝ }
+// A weight that is over the floor, and 0 for any other.
+fn above(weight: u32, floor: u32) -> u32
+    ensures { λ r. ⌜ r ≡ cond (ltb floor weight) weight 0 ⌝ }
 {
-    let BestEdge::At {
-        item: _,
-        weight: heaviest,
-        utility: greatest,
-    } = best
-    else {
-        return false;
-    };
-    if utility.0 < greatest.0 {
+    if weight <= floor {
+        return 0;
+    }
+    weight
+}
+
+// Step 1, test open edges (the documents' open entries). The slide: "util(uv) > ε · w(uv)". An edge of the row is live and open exactly where its weight is
+// over its item's floor (floors.rt); its weight is kept, and that of any other is 0. The contract: whatever slack, prices and withdrawn items these are
+// the floors of.
+pub(crate) fn test_open<'a>(
+    tested: &mut [u32; Auction::MAX_ITEMS],
+    row: &'a [u32],
+    floors: &'a [u32; Auction::MAX_ITEMS],
+    items: usize,
+)
+    requires { ⌜ (items ≤ maxItems) × (length (now row) ≡ maxItems) ⌝ }
+    ensures { λ _. ⌜ ((p q : ℕ) (withdrawn : List ℕ) (y : ℕ → ℕ) → p < q → Weighs items (now (row .entry)) → Floors p q withdrawn y items (now (floors .entry)) →
+        now (tested .exit) ≡ written items (testOpen p q (liveIn (now (row .entry)) withdrawn) y) (now (tested .entry))) ⌝ }
+{
+    let mut k: usize = 0;
+    while k < items {
+        tested[k] = above(row[k], floors[k]);
+        k += 1;
+    }
+}
+
+// The best of the edges looked at. The bar is its utility less 1, so that an edge of equal utility is above it, and is compared by weight. Before the
+// first open edge there is no weight, and the bar is 0.
+struct Leader {
+    item: usize,
+    weight: Pence,
+    bar: Scaled,
+}
+
+// Whether an edge whose utility is above the bar goes before the leader: its utility is greater, or its weight is.
+fn goes_before(utility: Scaled, weight: Pence, leader: Leader) -> bool
+    requires { ⌜ leader .bar .0 ≤ maxQ * wordLimit ⌝ }
+    ensures { λ r. ⌜ r ≡ (ltb (leader .bar .0 + 1) (utility .0) || ltb (leader .weight .0) (weight .0)) ⌝ }
+{
+    if leader.bar.0 + 1 < utility.0 {
         return true;
     }
-    if utility.0 == greatest.0 {
-        return weight.0 <= heaviest.0;
-    }
-    false
+    leader.weight.0 < weight.0
 }
 
-// The best so far, after one more edge has been looked at.
-fn offer(best: BestEdge, item: usize, weight: Pence, price: Scaled, slack: Slack) -> BestEdge
-    requires { ⌜ (slack .p < slack .q) × (slack .q ≤ maxQ) × (weight .0 < wordLimit) ⌝ }
-    ensures { λ r. ⌜ r ≡ offerOf (slack .p) (slack .q) item (weight .0) (price .0) best ⌝ }
+// The leader, after one more edge has been looked at.
+fn offer(leader: Leader, item: usize, weight: Pence, price: Scaled, slack: Slack) -> Leader
+    requires { ⌜ (slack .q ≤ maxQ) × (weight .0 < wordLimit) × (price .0 ≤ maxQ * wordLimit) × LeaderFits (leader .weight .0) (leader .bar .0) ⌝ }
+    ensures { λ r. ⌜ LeaderFits (r .weight .0) (r .bar .0) ×
+        (edgeOf (r .item) (r .weight) (r .bar .0) ≡ takeOf (slack .q) item (weight .0) (price .0) (edgeOf (leader .item) (leader .weight) (leader .bar .0))) ⌝ }
 {
-    if !slack.exceeds(weight, price) {
-        return best;
+    // q × w is at most y + bar: the utility q × w - y is not above the bar.
+    if !slack.exceeds(weight, Scaled(price.0 + leader.bar.0)) {
+        return leader;
     }
     let utility = slack.utility(weight, price);
-    if is_beaten(utility, weight, best) {
-        return best;
+    if goes_before(utility, weight, leader) {
+        return Leader {
+            item,
+            weight,
+            bar: Scaled(utility.0 - 1),
+        };
     }
-    if utility.0 <= slack.step(weight).0 {
-        return best;
-    }
-    BestEdge::At {
-        item,
-        weight,
-        utility,
-    }
+    leader
 }
 
-// The weight of the live edge in a row's cell.
-fn live_weight(cell: u32, withdrawn: bool) -> Pence
-    ensures { λ r. ⌜ (r .0 ≡ cond withdrawn 0 cell) × (r .0 < wordLimit) ⌝ }
+// The leader as an answer.
+fn picked(leader: Leader) -> BestEdge
+    requires { ⌜ leader .bar .0 ≤ maxQ * wordLimit ⌝ }
+    ensures { λ r. ⌜ r ≡ edgeOf (leader .item) (leader .weight) (leader .bar .0) ⌝ }
 {
-    if withdrawn {
-        return Pence(0);
+    if leader.weight.0 == 0 {
+        return BestEdge::Nothing;
     }
-    weight_in(cell)
+    let weight = leader.weight;
+    BestEdge::At {
+        item: leader.item,
+        weight,
+        utility: Scaled(leader.bar.0 + 1),
+    }
 }
 
-// The open live edge of greatest utility of a row; of equal ones the heaviest, and of these that at the lowest item.
-pub(crate) fn best_open<'a>(
-    weights: &'a [u32],
-    prices: [Scaled; Auction::MAX_ITEMS],
-    withdrawn: &'a [u8; Auction::MAX_ITEMS],
+// Step 2, pick. The slide: "max util u". Of the open edges that of greatest utility; of equal ones the heaviest, and of these that at the lowest item.
+pub(crate) fn pick<'a>(
+    tested: &'a [u32; Auction::MAX_ITEMS],
+    prices: &'a [u64; Auction::MAX_ITEMS],
     items: usize,
     slack: Slack,
 ) -> BestEdge
-    requires { ⌜ (items ≤ maxItems) × (slack .p < slack .q) × (slack .q ≤ maxQ) × (length (now weights) ≡ maxItems) ⌝ }
-    ensures { λ r. ⌜ r ≡ bestOf (slack .p) (slack .q) (liveIn (now (weights .entry)) (now (withdrawn .entry))) (scaledAt prices) items ⌝ }
+    requires { ⌜ (items ≤ maxItems) × (slack .q ≤ maxQ) × ((k : ℕ) → k < items → cells (now prices) k ≤ maxQ * wordLimit) ⌝ }
+    ensures { λ r. ⌜ r ≡ pickOf (slack .q) (cells (now (tested .entry))) (cells (now (prices .entry))) items ⌝ }
 {
-    let mut best = BestEdge::Nothing;
+    let mut leader = Leader {
+        item: 0,
+        weight: Pence(0),
+        bar: Scaled(0),
+    };
     let mut k: usize = 0;
     while k < items {
-        best = offer(
-            best,
-            k,
-            live_weight(weights[k], withdrawn[k] != 0),
-            prices[k],
-            slack,
-        );
+        leader = offer(leader, k, weight_in(tested[k]), Scaled(prices[k]), slack);
         k += 1;
     }
-    best
+    picked(leader)
+}
+
+// Step 3, price. The slide: "v bids y_u + ε · w(uv)", which becomes the price. The item's floor rises with it.
+pub(crate) fn raise(
+    prices: &mut [u64; Auction::MAX_ITEMS],
+    floors: &mut [u32; Auction::MAX_ITEMS],
+    item: usize,
+    weight: Pence,
+    slack: Slack,
+)
+    requires { ⌜ (item < maxItems) × (slack .p < slack .q) × (slack .q ≤ maxQ) × (weight .0 < wordLimit) × (cells (now prices) item ≤ maxQ * wordLimit) ⌝ }
+    ensures { λ _. ⌜ (now (prices .exit) ≡ set (now (prices .entry)) item (raisedTo (slack .p) (weight .0) (cells (now (prices .entry)) item))) ×
+        (now (floors .exit) ≡ set (now (floors .entry)) item (floorOf (slack .p) (slack .q) (raisedTo (slack .p) (weight .0) (cells (now (prices .entry)) item)))) ⌝ }
+{
+    let price = Scaled(prices[item] + slack.step(weight).0);
+    prices[item] = price.0;
+    floors[item] = floor_of(price, slack);
+}
+
+// Step 4, hand over. The slide: "and allocated". The bidder has the item, and its gain is its utility; whoever had the item is unallocated, with gain 0.
+pub(crate) fn hand_over(
+    holders: &mut [u8; Auction::MAX_ITEMS],
+    gains: &mut [u64; Auction::MAX_BIDDERS],
+    item: usize,
+    bidder: usize,
+    utility: Scaled,
+) -> Holder
+    requires { ⌜ (item < maxItems) × (bidder < maxBidders) × (cells (now holders) item ≤ maxBidders) ⌝ }
+    ensures { λ r. ⌜ (r ≡ holderOf (cells (now (holders .entry)) item)) ×
+        (now (holders .exit) ≡ handedTo (now (holders .entry)) item bidder) ×
+        (now (gains .exit) ≡ gainsTo 0 (now (gains .entry)) bidder (utility .0) (holderOf (cells (now (holders .entry)) item))) ⌝ }
+{
+    let before = holder_of(holders[item]);
+    holders[item] = (bidder + 1) as u8;
+    gains[bidder] = utility.0;
+    if let Holder::Held(displaced) = before {
+        gains[displaced] = 0;
+    }
+    before
 }

@@ -61,6 +61,14 @@ impl Slack {
         Pence(whole.0 / (self.q + self.p))
     }
 
+    // So many q-ths divided by q - p, the whole part: the greatest weight that `least` does not take above a price.
+    pub fn floor(self, price: Scaled) -> Pence
+        requires { ⌜ self .p < self .q ⌝ }
+        ensures { λ r. ⌜ r .0 ≡ price .0 / (self .q - self .p) ⌝ }
+    {
+        Pence(price.0 / (self.q - self.p))
+    }
+
     // Whether q times a weight is above a price.
     pub fn exceeds(self, weight: Pence, price: Scaled) -> bool
         requires { ⌜ (self .q ≤ maxQ) × (weight .0 < wordLimit) ⌝ }

@@ -5,12 +5,15 @@ use Rattle.board.proofs.SoundLaw.{sound-decides}
 use Rattle.bidding.proofs.Choices.{best-is-chosen, chosen-once, ties-by-weight}
 use Rattle.bidding.proofs.Chains.{chain-once}
 use Rattle.bidding.proofs.Rolls.{displaced-in-order, order-once}
+use Rattle.bidding.proofs.AboveFloors.{open-above-floor}
+use Rattle.bidding.proofs.Slides.{test-means, pick-means, test-then-pick, plain-steps, until-now, bid-by-slides, steps-in-turn, chain-by-slides}
 use Rattle.bidding.proofs.Vacating.{all-go}
 use Rattle.bidding.proofs.Withdrawing.{chains-once, withdrawn-is-chains, list-of-one}
 use Rattle.auction.proofs.Demand1.{open-demand-1, arrive-demand-1, withdraw-demand-1, read-out-demand-1, call-orders}
 use Rattle.auction.proofs.Demand2.{arrive-ends, withdraw-ends, arrive-demand-2, withdraw-demand-2, sound-demand-2}
 use Rattle.auction.proofs.ReadOuts.{read-out-demand-2}
 use Rattle.auction.proofs.Histories.{history-demand-2}
+use Rattle.auction.proofs.BySlides.{arrive-by-slides, withdraw-by-slides, histories-by-slides}
 use Rattle.auction.proofs.EnoughItems.{enough-items}
 use Rattle.auction.proofs.OneItem.{one-as-before, none-changed}
 use Rattle.replay.proofs.LinePairs.{line-items}
@@ -31,9 +34,10 @@ use Rattle.page.proofs.WriteLaws.{write-demand-1}
 use Rattle.page.proofs.ReadLaws.{read-demand-1}
 use Rattle.page.proofs.Demand1.{page-orders}
 use Rattle.page.proofs.Laws.{writes-said, reads-said, reads-back}
-use Rattle.guarantees.specs.Guarantees.{TableFirst, QuickBids, EqualPairs, KitchenPage, SteamLine, SideBySide, Guarantees}
+use Rattle.guarantees.specs.Guarantees.{TableFirst, QuickBids, EqualPairs, KitchenPage, SteamLine, SideBySide, BidAsSlides, Guarantees}
 use Rattle.guarantees.proofs.Checks.{exact-accepted, equal-totals-best, read-out-accepted}
 use Rattle.guarantees.proofs.BesideExact.{no-difference-best}
+use Rattle.guarantees.proofs.BySlides.{lines-by-slides, replay-by-slides}
 
 demand-1 : TableFirst
 demand-1 =
@@ -141,5 +145,24 @@ side-by-side =
       best = no-difference-best;
     }
 
+bid-as-slides : BidAsSlides
+bid-as-slides =
+    record {
+      tests = test-means;
+      picks = pick-means;
+      chosen = test-then-pick;
+      floors = open-above-floor;
+      plain = plain-steps;
+      until-now = until-now;
+      bid = bid-by-slides;
+      in-turn = steps-in-turn;
+      chain = chain-by-slides;
+      arrives = arrive-by-slides;
+      withdraws = withdraw-by-slides;
+      histories = histories-by-slides;
+      lines = lines-by-slides;
+      texts = replay-by-slides;
+    }
+
 pub guarantees : Guarantees
-guarantees = record { demand1 = demand-1; demand2 = demand-2; demand3 = demand-3; page = kitchen-page; steam = steam-line; sides = side-by-side }
+guarantees = record { demand1 = demand-1; demand2 = demand-2; demand3 = demand-3; page = kitchen-page; steam = steam-line; sides = side-by-side; slides = bid-as-slides }

@@ -1,6 +1,7 @@
--- The proof of the page, from the crates below: prices that histories reach, what the check accepts, and the page itself.
+-- The proof of the page, from the crates below: prices that histories reach, what the check accepts, texts by the slides, and the page itself.
 pub mod Modest
 pub mod Bounds
 pub mod Checks
 pub mod BesideExact
+pub mod BySlides
 pub mod Guarantees

@@ -5,12 +5,14 @@ use Rattle.board.specs.SoundTest.{SoundTestDecides}
 use Rattle.refusals.specs.Codes.{CodesApart}
 use Rattle.refusals.specs.Told.{ToldApart}
 use Rattle.bidding.specs.RuleLaws.{BestIsChosen, ChosenOnce, TiesByWeight, ChainOnce}
+use Rattle.bidding.specs.SlideLaws.{TestMeans, PickMeans, TestThenPick, OpenAboveFloor, PlainSteps, UntilNow, BidBySlides, StepsInTurn, ChainBySlides}
 use Rattle.bidding.specs.WithdrawalLaws.{AllGo, DisplacedInOrder, OrderOnce, ChainsOnce, WithdrawnIsChains, ListOfOne}
 use Rattle.auction.specs.OneItem.{OneAsBefore, NoneChanged}
 use Rattle.auction.specs.EnoughItems.{EnoughItems}
 use Rattle.auction.specs.Demand1.{OpenDemand1, ArriveDemand1, WithdrawDemand1, ReadOutDemand1, CallOrders}
 use Rattle.auction.specs.Demand2.{ArriveEnds, WithdrawEnds, ArriveDemand2, WithdrawDemand2, SoundDemand2, ReadOutDemand2}
 use Rattle.auction.specs.Histories.{HistoryDemand2}
+use Rattle.auction.specs.BySlides.{ArriveBySlides, WithdrawBySlides, HistoriesBySlides}
 use Rattle.replay.specs.Says.{SaysOnce, LineSaid, LineMalformed}
 use Rattle.replay.specs.TextDemand1.{TextsDemand1}
 use Rattle.replay.specs.ReplayLaws.{ReplayEnds, LinesReached, ReplayReached, RefusedBefore, LineItems}
@@ -27,6 +29,7 @@ use Rattle.page.specs.Demand1.{WriteDemand1, ReadDemand1, PageOrders}
 use Rattle.page.specs.Laws.{BoardIsPage, BoardsFit, WeightsAdd, WritesSaid, ReadsSaid, ReadsBack}
 use Rattle.guarantees.specs.Checks.{ExactAccepted, EqualTotalsBest, ReadOutAccepted}
 use Rattle.guarantees.specs.BesideExact.{NoDifferenceBest}
+use Rattle.guarantees.specs.BySlides.{LinesBySlides, ReplayBySlides}
 
 -- Demand 1
 pub record TableFirst : Type 0 where
@@ -171,6 +174,31 @@ pub record SideBySide : Type 0 where
   -- With demand 3: a plan whose difference to the exact level's is 0 is a plan of greatest weight, and no other is
   pub best : NoDifferenceBest
 
+-- R-5, the bid as the slides have it: "test open entries, pick, price, hand over"
+pub record BidAsSlides : Type 0 where
+  -- The first step keeps the open entries and no other; the second picks as R-1 says; one after the other they give the rule's choice
+  pub tests : TestMeans
+  pub picks : PickMeans
+  pub chosen : TestThenPick
+  -- The code tests a weight against the greatest that is not open at its item's price (the floor), which is the same
+  pub floors : OpenAboveFloor
+  -- The last two, on the lists of plain numbers that the code has, leave the board that they leave by definition
+  pub plain : PlainSteps
+  -- The bid as defined until now is that of which chains are made
+  pub until-now : UntilNow
+  -- "These four steps in turn .. must be shown equal to the bid as defined until now": on every board, of every bidder, whatever bids follow; so every
+  -- chain is the same
+  pub bid : BidBySlides
+  pub in-turn : StepsInTurn
+  pub chain : ChainBySlides
+  -- "at every bid of every call on a sound board": what each accepted call leaves is what bids of these four steps leave, and it tells their
+  -- number; the histories are those of such calls, and no other; so are the lines of every text that is replayed, up to one that is refused
+  pub arrives : ArriveBySlides
+  pub withdraws : WithdrawBySlides
+  pub histories : HistoriesBySlides
+  pub lines : LinesBySlides
+  pub texts : ReplayBySlides
+
 pub record Guarantees : Type 0 where
   pub demand1 : TableFirst
   pub demand2 : QuickBids
@@ -178,3 +206,4 @@ pub record Guarantees : Type 0 where
   pub page : KitchenPage
   pub steam : SteamLine
   pub sides : SideBySide
+  pub slides : BidAsSlides

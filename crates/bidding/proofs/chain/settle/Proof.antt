@@ -1,105 +1,125 @@
 -- `chain::settle` meets its contract: the chain on its way is the chain it began.
-use mathlib.Core.Path.{_≡_, sym, _∙_}
-use Prim.Native.Nat.{_+_, _-_}
-use native.Mathlib.Numerals.{add-one}
+use mathlib.Core.Path.{_≡_, refl, sym, ap, _∙_}
+use Prim.Native.Nat.{ℕ, _-_}
 use native.Mathlib.Omega.{arith}
+use lib.ListN.{length, length-replicate}
 use borrow.Author.Needs.{needs}
 use Rattle.board.specs.declared.record.Auction.{Auction}
-use Rattle.board.specs.Cells.{auction, priceAt}
+use Rattle.board.specs.Limits.{maxItems}
+use Rattle.board.specs.Cells.{auction}
 use Rattle.bidding.specs.declared.rule.BestEdge.the-variants.{At}
-use Rattle.bidding.specs.Rule.{bestFor, placedAt, displaced, fuelOf}
-use Rattle.bidding.proofs.Turns.{Going, going-starts, going-ends, Found, counts, less, found, turn-ends, turn-on, row-part-length, best-of-part}
+use Rattle.bidding.specs.Rule.{bestFor, fuelOf, settleOf}
+use Rattle.bidding.proofs.Turns.{going-starts, going-ends, counts, less}
+use Rattle.bidding.proofs.Running.{board, Running, prices-size, gains-size, prices-small, row-size, tested-kept, best-is, next-ends, next-runs, prices-kept, gains-kept, item-small, weight-small, held-small, item-price}
 use Rattle.bidding.proofs.chain.settle.Statement.{statement}
 use Rattle.bidding.proofs.chain.settle.Tie as tie
+use Rattle.bidding.proofs.book.gains_of.Reads as gains-of-reads
+use Rattle.bidding.proofs.book.prices_of.Reads as prices-of-reads
+use Rattle.bidding.proofs.book.state_of.Reads as state-of-reads
+use Rattle.bidding.proofs.floors.floors_of.Reads as floors-of-reads
+use Rattle.bidding.proofs.rule.hand_over.Reads as hand-over-reads
+use Rattle.bidding.proofs.rule.pick.Reads as pick-reads
+use Rattle.bidding.proofs.rule.raise.Reads as raise-reads
+use Rattle.bidding.proofs.rule.test_open.Reads as test-open-reads
 
 abbrev Inv-loop : tie.InvT-loop
-Inv-loop weights bidder market state₀ rows items slack next₀ bids₀ state next bids =
-    Going (auction market weights state₀) bidder (auction market weights state) next bids
+Inv-loop market weights bidder rows items prices₀ holders₀ gains₀ floors₀ tested₀ next₀ bids₀ prices holders gains floors tested next bids =
+    Running (board market weights prices₀ holders₀ gains₀) bidder market weights prices holders gains floors tested next bids
 
 abbrev μ-loop : tie.MeasureT-loop
-μ-loop weights bidder market state₀ rows items slack next₀ bids₀ state next bids = fuelOf (auction market weights state₀) - bids
+μ-loop market weights bidder rows items prices₀ holders₀ gains₀ floors₀ tested₀ next₀ bids₀ prices holders gains floors tested next bids =
+    fuelOf (board market weights prices₀ holders₀ gains₀) - bids
 
 -- ---- The way back from each place of a turn, and what is known there
 
-abbrev start : tie.At-loop Inv-loop μ-loop → tie.Start Inv-loop μ-loop
-start c = c .before .before .before
+abbrev start : tie.After-floors-of Inv-loop μ-loop → tie.Start Inv-loop μ-loop
+start c = c .before .before .before .before .before .before .before .before
 
--- The board at the loop's head, and that which the chain began with
-abbrev board : tie.At-loop Inv-loop μ-loop → Auction
-board c = auction (start c .args .t1) (start c .args .weights .now) (c .loop .state)
+-- The board that the chain began with, as plain numbers and as it was handed in
+abbrev first : tie.After-floors-of Inv-loop μ-loop → Auction
+first c = board (start c .args .market) (start c .args .weights .now) (c .before .before .before .before .prices-of .result) (start c .args .state .holder) (c .before .before .gains-of .result)
 
-abbrev first : tie.At-loop Inv-loop μ-loop → Auction
-first c = auction (start c .args .t1) (start c .args .weights .now) (start c .args .t3)
+first-is : (c : tie.After-floors-of Inv-loop μ-loop) → first c ≡ auction (start c .args .market) (start c .args .weights .now) (start c .args .state)
+first-is c = rw (c .before .before .before .before .prices-of .ensures, c .before .before .gains-of .ensures) refl
 
-abbrev head : tie.After-best-open Inv-loop μ-loop → tie.At-loop Inv-loop μ-loop
-head c = c .before .before .before .before .before
+abbrev head : tie.After-test-open Inv-loop μ-loop → tie.At-loop Inv-loop μ-loop
+head c = c .before .before .before .before
 
-abbrev searched : tie.After-known-told Inv-loop μ-loop → tie.After-best-open Inv-loop μ-loop
-searched c = c .before .before .before
+abbrev tested : tie.After-pick Inv-loop μ-loop → tie.After-test-open Inv-loop μ-loop
+tested c = c .before .before .before .before
 
-abbrev taking : tie.After-holder-of Inv-loop μ-loop → tie.After-known-told Inv-loop μ-loop
-taking c = c .before .before .before .before
+abbrev picked : tie.After-known-told Inv-loop μ-loop → tie.After-pick Inv-loop μ-loop
+picked c = c .before .before .before
 
--- What the search answers is the rule's choice
-best-is : (c : tie.After-best-open Inv-loop μ-loop) → bestFor (board (head c)) (head c .loop .next) ≡ c .best-open .result
-best-is c = best-of-part (board (head c)) (head c .loop .next) _ (c .best-open .ensures)
+-- The board at the loop's head
+abbrev here : tie.At-loop Inv-loop μ-loop → Auction
+here c = board (start (c .before) .args .market) (start (c .before) .args .weights .now) (c .loop .prices) (c .loop .holders) (c .loop .gains)
+
+abbrev priced : tie.After-raise Inv-loop μ-loop → tie.After-known-told Inv-loop μ-loop
+priced c = c .before .before .before
+
+abbrev raised : tie.After-hand-over Inv-loop μ-loop → tie.After-raise Inv-loop μ-loop
+raised c = c .before .before .before
+
+abbrev handed : tie.After-hand-over Inv-loop μ-loop → tie.After-known-told Inv-loop μ-loop
+handed c = priced (raised c)
+
+-- What steps 1 and 2 answer is the rule's choice
+chosen : (c : tie.After-pick Inv-loop μ-loop) → let at = head (tested c) in bestFor (here at) (at .loop .next) ≡ c .pick .result
+chosen c = best-is (head (tested c) .loop .inv) (tested c .test-open .ensures) _ (c .pick .ensures)
 
 best : (c : tie.After-known-told Inv-loop μ-loop) →
+    let at = head (tested (picked c)) in
     let e = c .before .best .given .0 in
-    bestFor (board (head (searched c))) (head (searched c) .loop .next) ≡ At (e .0) (e .1 .0) (e .1 .1 .0)
-best c = best-is (searched c) ∙ c .before .best .given .1
-
-finds : (c : tie.After-known-told Inv-loop μ-loop) →
-    let e = c .before .best .given .0 in
-    Found (board (head (searched c))) (head (searched c) .loop .next) (e .0) (e .1 .0) (e .1 .1 .0)
-finds c = found (head (searched c) .loop .inv) (best c)
-
--- Where the item is known to be held: the chain goes on
-abbrev handing : tie.After-known-told2 Inv-loop μ-loop → tie.After-holder-of Inv-loop μ-loop
-handing c = c .before .before .before
-
-onward : (c : tie.After-known-told2 Inv-loop μ-loop) →
-    let h = handing c in
-    let d = taking h in
-    let at = head (searched d) in
-    let e = d .before .best .given .0 in
-    let x = c .before .holder .given .0 .0 in
-    Going (first at) (start at .args .bidder)
-    (displaced (placedAt (board at) (at .loop .next) (e .0) (e .1 .1 .0 .0) (priceAt (board at) (e .0) + h .before .before .before .step .result .0)) x) x (at .loop .bids + 1)
-onward c =
-    let h = handing c in
-    let d = taking h in
-    turn-on (head (searched d) .loop .inv) (best d) _ (h .before .before .before .step .ensures) _ (sym (h .holder-of .ensures) ∙ c .before .holder .given .1)
+    bestFor (here at) (at .loop .next) ≡ At (e .0) (e .1 .0) (e .1 .1 .0)
+best c = chosen (picked c) ∙ c .before .best .given .1
 
 -- ---- The needs
 
+prices-of-requires : tie.Need-prices-of-requires Inv-loop μ-loop
+prices-of-requires c κs = c .before .before .before .pre .sound .formed .prices
+
+gains-of-requires : tie.Need-gains-of-requires Inv-loop μ-loop
+gains-of-requires c κs = c .before .before .before .before .before .pre .sound .formed .gains
+
+floors-of-requires : tie.Need-floors-of-requires Inv-loop μ-loop
+floors-of-requires c κs = let s = c .before .before .before .before .before .before .before .pre .sound in (s .items .1, s .slack .below)
+
 loop-holds : tie.Need-loop-holds Inv-loop μ-loop
-loop-holds c = going-starts (c .before .before .pre)
+loop-holds c =
+    record {
+      going = going-starts (rw (← first-is c) at (start c .pre));
+      floored = c .floors-of .ensures .1;
+      floors-size = c .floors-of .ensures .0;
+      tested-size = length-replicate {A = ℕ} maxItems 0;
+    }
 
 mul-from : tie.Need-mul-from Inv-loop μ-loop
-mul-from c = let h = c .loop .inv .ready in let l = h .bidder in let s = h .sound .arrived in search needs
+mul-from c = let h = c .loop .inv .going .ready in let l = h .bidder in let s = h .sound .arrived in search needs
 
-add-best-open : tie.Need-add-best-open Inv-loop μ-loop
-add-best-open c = let h = c .before .loop .inv .ready in let l = h .bidder in let s = h .sound .arrived in let f = h .sound .formed .rows in search needs
+add-row : tie.Need-add-row Inv-loop μ-loop
+add-row c = let h = c .loop .inv .going .ready in let l = h .bidder in let s = h .sound .arrived in let f = h .sound .formed .rows in search needs
 
-mul-best-open : tie.Need-mul-best-open Inv-loop μ-loop
-mul-best-open c = let h = c .before .loop .inv .ready in let l = h .bidder in let s = h .sound .arrived in let f = h .sound .formed .rows in search needs
+mul-row : tie.Need-mul-row Inv-loop μ-loop
+mul-row c = let h = c .loop .inv .going .ready in let l = h .bidder in let s = h .sound .arrived in let f = h .sound .formed .rows in search needs
 
-sub-best-open : tie.Need-sub-best-open Inv-loop μ-loop
-sub-best-open c = let h = c .before .loop .inv .ready in let l = h .bidder in let s = h .sound .arrived in let f = h .sound .formed .rows in search needs
+sub-row : tie.Need-sub-row Inv-loop μ-loop
+sub-row c = let h = c .loop .inv .going .ready in let l = h .bidder in let s = h .sound .arrived in let f = h .sound .formed .rows in search needs
 
-part-best-open-start : tie.Need-part-best-open-start Inv-loop μ-loop
-part-best-open-start c = let h = c .before .loop .inv .ready in let l = h .bidder in let s = h .sound .arrived in let f = h .sound .formed .rows in search needs
+part-row-start : tie.Need-part-row-start Inv-loop μ-loop
+part-row-start c = let h = c .loop .inv .going .ready in let l = h .bidder in let s = h .sound .arrived in let f = h .sound .formed .rows in search needs
 
-part-best-open-end : tie.Need-part-best-open-end Inv-loop μ-loop
-part-best-open-end c = let h = c .before .loop .inv .ready in let l = h .bidder in let s = h .sound .arrived in let f = h .sound .formed .rows in search needs
+part-row-end : tie.Need-part-row-end Inv-loop μ-loop
+part-row-end c = let h = c .loop .inv .going .ready in let l = h .bidder in let s = h .sound .arrived in let f = h .sound .formed .rows in search needs
 
-best-open-requires : tie.Need-best-open-requires Inv-loop μ-loop
-best-open-requires c κs =
-    let at = c .before .before .before .before in
-    let h = at .loop .inv .ready in
-    let s = h .sound in
-    (s .items .1, s .slack .below, s .slack .high, row-part-length _ (at .loop .next) (omega (arith, h .bidder, s .arrived)) (s .formed .rows))
+test-open-requires : tie.Need-test-open-requires Inv-loop μ-loop
+test-open-requires c κs = let r = c .before .before .before .loop .inv in (r .going .ready .sound .items .1, row-size r)
+
+pick-requires : tie.Need-pick-requires Inv-loop μ-loop
+pick-requires c κs =
+    let r = head (c .before .before .before) .loop .inv in
+    let s = r .going .ready .sound in
+    (s .items .1, s .slack .high, prices-small r)
 
 enum-known-best : tie.Need-enum-known-best Inv-loop μ-loop
 enum-known-best c = search needs
@@ -107,50 +127,32 @@ enum-known-best c = search needs
 enum-told : tie.Need-enum-told Inv-loop μ-loop
 enum-told c = search needs
 
+state-of-requires : tie.Need-state-of-requires Inv-loop μ-loop
+state-of-requires c κs = let r = head (tested (c .before .before)) .loop .inv in (prices-size r, gains-size r)
+
 returns : tie.Need-returns Inv-loop μ-loop
-returns c = let s = c .before .before in going-ends (head s .loop .inv) (best-is s ∙ c .enum-told .given .1)
+returns c =
+    let p = c .before .before .before in
+    let at = head (tested p) in
+    rw (c .state-of .ensures) (going-ends (at .loop .inv .going) (chosen p ∙ c .before .enum-told .given .1)
+    ∙ ap (λ b. settleOf (fuelOf b) b (start (at .before) .args .bidder) 0) (first-is (at .before)))
 
-mul-utility : tie.Need-mul-utility Inv-loop μ-loop
-mul-utility c = let h = finds c in search needs
+raise-requires : tie.Need-raise-requires Inv-loop μ-loop
+raise-requires c κs =
+    let d = c .before .before in
+    let r = head (tested (picked d)) .loop .inv in
+    let s = r .going .ready .sound .slack in
+    (item-small r (best d), s .below, s .high, weight-small r (best d), item-price r (best d))
 
-element-set-from-utility : tie.Need-element-set-from-utility Inv-loop μ-loop
-element-set-from-utility c = let h = finds c in search needs
-
-mul-t23 : tie.Need-mul-t23 Inv-loop μ-loop
-mul-t23 c = let h = finds c in search needs
-
-element-copy-out-t34 : tie.Need-element-copy-out-t34 Inv-loop μ-loop
-element-copy-out-t34 c = let h = finds c in search needs
-
-step-requires : tie.Need-step-requires Inv-loop μ-loop
-step-requires c κs = let h = finds c in let s = head (searched c) .loop .inv .ready .sound .slack in search needs
-
-add-t36 : tie.Need-add-t36 Inv-loop μ-loop
-add-t36 c = let h = finds (c .before .before) in let e = c .before .step .ensures in omega arith
-
-mul-t22 : tie.Need-mul-t22 Inv-loop μ-loop
-mul-t22 c = let h = finds (c .before .before) in search needs
-
-element-set-from-state : tie.Need-element-set-from-state Inv-loop μ-loop
-element-set-from-state c = let h = finds (c .before .before) in search needs
-
-element-copy-out-holder-of : tie.Need-element-copy-out-holder-of Inv-loop μ-loop
-element-copy-out-holder-of c = let h = finds (c .before .before) in search needs
-
-holder-of-requires : tie.Need-holder-of-requires Inv-loop μ-loop
-holder-of-requires c κs = search needs
-
-add-state : tie.Need-add-state Inv-loop μ-loop
-add-state c = let h = finds (taking c) in search needs
-
-cast-state : tie.Need-cast-state Inv-loop μ-loop
-cast-state c = let h = finds (taking c) in search needs
-
-element-write-state : tie.Need-element-write-state Inv-loop μ-loop
-element-write-state c = let h = finds (taking c) in search needs
+hand-over-requires : tie.Need-hand-over-requires Inv-loop μ-loop
+hand-over-requires c κs =
+    let d = priced (c .before .before) in
+    let r = head (tested (picked d)) .loop .inv in
+    let h = r .going .ready in
+    (item-small r (best d), omega (arith, h .bidder, h .sound .arrived), held-small r (best d))
 
 add-bids : tie.Need-add-bids Inv-loop μ-loop
-add-bids c = let h = counts (head (searched (taking c)) .loop .inv) in omega arith
+add-bids c = let h = counts (head (tested (picked (handed c))) .loop .inv .going) in omega arith
 
 enum-known-holder : tie.Need-enum-known-holder Inv-loop μ-loop
 enum-known-holder c = search needs
@@ -158,28 +160,33 @@ enum-known-holder c = search needs
 enum-told-2 : tie.Need-enum-told-2 Inv-loop μ-loop
 enum-told-2 c = search needs
 
-returns-2 : tie.Need-returns-2 Inv-loop μ-loop
-unfolding placedAt displaced
-returns-2 c =
+state-of-requires-2 : tie.Need-state-of-requires-2 Inv-loop μ-loop
+state-of-requires-2 c κs =
     let h = c .before .before in
-    let d = taking h in
-    let at = head (searched d) in
-    rw (add-one (at .loop .next)) (turn-ends (at .loop .inv) (best d) _ (h .before .before .before .step .ensures) (sym (h .holder-of .ensures) ∙ c .enum-told2 .given .1))
+    let d = handed h in
+    let r = head (tested (picked d)) .loop .inv in
+    (ap length (raised h .raise .ensures .0) ∙ prices-kept r (best d), ap length (h .hand-over .ensures .2) ∙ gains-kept r (best d))
 
-mul-t22-2 : tie.Need-mul-t22-2 Inv-loop μ-loop
-unfolding placedAt displaced
-mul-t22-2 c = let h = onward c .ready in let s = h .sound .arrived in search needs
-
-element-set-from-state-2 : tie.Need-element-set-from-state-2 Inv-loop μ-loop
-unfolding placedAt displaced
-element-set-from-state-2 c = let h = onward c .ready in let s = h .sound .arrived in search needs
+returns-2 : tie.Need-returns-2 Inv-loop μ-loop
+returns-2 c =
+    let h = c .before .before .before in
+    let d = handed h in
+    let at = head (tested (picked d)) in
+    rw (c .state-of2 .ensures) (next-ends (at .loop .inv) (best d) (sym (h .hand-over .ensures .0) ∙ c .before .enum-told2 .given .1) _ _ _
+    (raised h .raise .ensures .0) (h .hand-over .ensures .1) (h .hand-over .ensures .2)
+    ∙ ap (λ b. settleOf (fuelOf b) b (start (at .before) .args .bidder) 0) (first-is (at .before)))
 
 loop-less : tie.Need-loop-less Inv-loop μ-loop
-loop-less c = less (head (searched (taking (handing c))) .loop .inv)
+loop-less c = less (head (tested (picked (handed (c .before .before .before)))) .loop .inv .going)
 
 loop-again : tie.Need-loop-again Inv-loop μ-loop
-unfolding placedAt displaced
-loop-again c = rw (add-one (head (searched (taking (handing c))) .loop .next)) (onward c)
+loop-again c =
+    let h = c .before .before .before in
+    let d = handed h in
+    let t = tested (picked d) in
+    let r = head t .loop .inv in
+    next-runs r (best d) _ (sym (h .hand-over .ensures .0) ∙ c .before .holder .given .1) _ _ _ _ _
+    (raised h .raise .ensures .0) (h .hand-over .ensures .1) (h .hand-over .ensures .2) (raised h .raise .ensures .1) (tested-kept r (t .test-open .ensures))
 
 pub settle-spec : {M : Type 1} → statement M
 settle-spec =
@@ -187,35 +194,28 @@ settle-spec =
     (tie.spec
     Inv-loop
     μ-loop
+    prices-of-requires
+    gains-of-requires
+    floors-of-requires
     loop-holds
     mul-from
-    add-best-open
-    mul-best-open
-    sub-best-open
-    part-best-open-start
-    part-best-open-end
-    best-open-requires
+    add-row
+    mul-row
+    sub-row
+    part-row-start
+    part-row-end
+    test-open-requires
+    pick-requires
     enum-known-best
     enum-told
+    state-of-requires
     returns
-    mul-utility
-    element-set-from-utility
-    mul-t23
-    element-copy-out-t34
-    step-requires
-    add-t36
-    mul-t22
-    element-set-from-state
-    element-copy-out-holder-of
-    holder-of-requires
-    add-state
-    cast-state
-    element-write-state
+    raise-requires
+    hand-over-requires
     add-bids
     enum-known-holder
     enum-told-2
+    state-of-requires-2
     returns-2
-    mul-t22-2
-    element-set-from-state-2
     loop-less
     loop-again)

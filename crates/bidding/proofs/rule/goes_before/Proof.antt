@@ -1,0 +1,18 @@
+-- `rule::goes_before` meets its contract.
+use mathlib.Core.Path.{refl}
+use borrow.Author.Needs.{needs}
+use borrow.Author.Tests.{lt-ltb, le-ltb}
+use Rattle.bidding.proofs.rule.goes_before.Statement.{statement}
+use Rattle.bidding.proofs.rule.goes_before.Tie as tie
+
+add-if1 : tie.Need-add-if1
+add-if1 c = search needs
+
+returns : tie.Need-returns
+returns c = rw (lt-ltb _ _ (c .if1 .taken)) refl
+
+returns-2 : tie.Need-returns-2
+returns-2 c = rw (le-ltb _ _ (c .before .before .if1 .left)) refl
+
+pub goes-before-spec : {M : Type 1} → statement M
+goes-before-spec = tie.close (tie.spec add-if1 returns returns-2)

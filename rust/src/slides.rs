@@ -1,0 +1,130 @@
+//! A bid as the slides have it (source document 002), for R-5 of document 02:
+//!
+//!     While there is v in V unallocated, util(uv) > ε · w(uv),
+//!     v bids y_u + ε · w(uv) and allocated max util u.
+//!
+//! Left are the items u, right the bidders v (document 01: kettles and batches), all by
+//! their numbers from 1; an edge uv (an entry) has the weight w(uv) (its worth). Money
+//! is in pence and fractions of a penny; nothing is multiplied by q. Only calls that are
+//! served are made here. Nothing is taken from `model`.
+
+use fraction::Fraction;
+use std::collections::{BTreeMap, VecDeque};
+
+pub mod bar;
+pub mod beside;
+pub mod fraction;
+
+/// An edge of v at an item u that is not withdrawn, with util(uv) = w(uv) - y_u.
+#[derive(Clone, Copy, Debug, PartialEq, Eq)]
+pub struct Offer {
+    pub item: u64,
+    pub weight: Fraction,
+    pub utility: Fraction,
+}
+
+/// The auction (document 01: the board).
+#[derive(Clone, Debug)]
+pub struct Slides {
+    pub epsilon: Fraction,
+    /// y_u of each item that is not withdrawn.
+    pub prices: BTreeMap<u64, Fraction>,
+    /// Each bidder's edges: items with weights.
+    pub edges: BTreeMap<u64, Vec<(u64, Fraction)>>,
+    /// The bidder that an item is allocated to.
+    pub allocated: BTreeMap<u64, u64>,
+    /// The gain of each bidder that has an item; that of any other is 0.
+    pub gains: BTreeMap<u64, Fraction>,
+    /// The unallocated bidders that are to bid, the next one first.
+    pub waiting: VecDeque<u64>,
+}
+
+/// The four steps of a bid.
+impl Slides {
+    /// Test open entries: those of v with util(uv) > ε · w(uv).
+    pub fn test_open(&self, v: u64) -> Vec<Offer> {
+        let mut open = self.offers(v);
+        open.retain(|uv| uv.utility > self.epsilon * uv.weight);
+        open
+    }
+
+    /// Pick: max util u. "of two kettles with equal utility a batch takes the one with
+    /// the larger worth, and only then the lower number" (document 02, R-1).
+    pub fn pick(open: &[Offer]) -> Option<Offer> {
+        let greatest = open.iter().map(|uv| uv.utility).max()?;
+        let equal = open.iter().filter(|uv| uv.utility == greatest);
+        let largest = equal.clone().map(|uv| uv.weight).max()?;
+        equal.filter(|uv| uv.weight == largest).min_by_key(|uv| uv.item).copied()
+    }
+
+    /// Price: y_u becomes y_u + ε · w(uv).
+    pub fn price(&mut self, picked: Offer) {
+        let price = self.prices[&picked.item] + self.epsilon * picked.weight;
+        self.prices.insert(picked.item, price);
+    }
+
+    /// Hand over: u is allocated to v, whose gain is the utility picked. The bidder that
+    /// had u "is displaced, its gain becomes 0, and it bids next" (document 01).
+    pub fn hand_over(&mut self, v: u64, picked: Offer) {
+        let displaced = self.allocated.insert(picked.item, v);
+        self.gains.insert(v, picked.utility);
+        if let Some(displaced) = displaced {
+            self.gains.remove(&displaced);
+            self.waiting.push_front(displaced);
+        }
+    }
+}
+
+impl Slides {
+    pub fn open(items: u64, p: u64, q: u64) -> Slides {
+        Slides {
+            epsilon: Fraction::new(p as i64, q as i64),
+            prices: (1..=items).map(|u| (u, Fraction::whole(0))).collect(),
+            edges: BTreeMap::new(),
+            allocated: BTreeMap::new(),
+            gains: BTreeMap::new(),
+            waiting: VecDeque::new(),
+        }
+    }
+
+    pub fn offers(&self, v: u64) -> Vec<Offer> {
+        let offer = |&(item, weight): &(u64, Fraction)| {
+            let price = *self.prices.get(&item)?;
+            Some(Offer { item, weight, utility: weight - price })
+        };
+        self.edges[&v].iter().filter_map(offer).collect()
+    }
+
+    /// A new bidder is unallocated.
+    pub fn arrive(&mut self, edges: impl Iterator<Item = (u64, u64)>) {
+        let v = self.edges.len() as u64 + 1;
+        self.edges.insert(v, edges.map(|(u, weight)| (u, Fraction::whole(weight))).collect());
+        self.waiting.push_back(v);
+    }
+
+    /// "All go first; then the displaced batches bid in number order, each chain run to
+    /// its end" (document 02, R-3).
+    pub fn withdraw(&mut self, items: &[u64]) {
+        self.prices.retain(|u, _| !items.contains(u));
+        let mut displaced: Vec<u64> =
+            items.iter().filter_map(|u| self.allocated.remove(u)).collect();
+        displaced.sort();
+        self.gains.retain(|v, _| !displaced.contains(v));
+        self.waiting.extend(displaced);
+    }
+
+    /// The while: one bid after the other, and how many they are. `look` is shown each
+    /// bidder before it bids.
+    pub fn run(&mut self, mut look: impl FnMut(&Slides, u64)) -> u64 {
+        let mut bids = 0;
+        while let Some(v) = self.waiting.pop_front() {
+            look(self, v);
+            let open = self.test_open(v);
+            let Some(picked) = Slides::pick(&open) else { continue };
+            self.price(picked);
+            self.hand_over(v, picked);
+            bids += 1;
+        }
+        bids
+    }
+}

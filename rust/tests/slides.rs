@@ -1,0 +1,333 @@
+//! The proved calls beside bids as the slides have them. R-5 of document 02: "These four
+//! steps in turn, however it is done now, must be shown equal to the bid as defined until
+//! now, at every bid of every call on a sound board." After every call the bids, the
+//! matching, the prices and the gains are equal; so they are after whole texts.
+
+use noughtelm_tests::both::{board, equal, record, shown, Same};
+use noughtelm_tests::ffi::{self, Told};
+use noughtelm_tests::gen::board::sound;
+use noughtelm_tests::gen::history::{history, level, slope, staircase, Call, History, Kind};
+use noughtelm_tests::gen::items::items_of;
+use noughtelm_tests::gen::text::write;
+use noughtelm_tests::model::auction::{Edge, Slack, MAX_ITEMS};
+use noughtelm_tests::rng::Rng;
+use noughtelm_tests::slides::bar::{call_near_the_bar, history_near_the_bar};
+use noughtelm_tests::slides::beside::*;
+use noughtelm_tests::slides::fraction::Fraction;
+use noughtelm_tests::slides::Slides;
+
+fn run(history: &History, met: &mut Met) -> Same<()> {
+    let Slack { p, q } = history.slack;
+    let mut ours = ffi::open(history.items, p, q).board;
+    let mut slides = Slides::open(history.items, p, q);
+    for (index, call) in history.calls.iter().enumerate() {
+        step(&mut ours, &mut slides, call, met)
+            .map_err(|found| format!("call {}: {found}", index + 1))?;
+    }
+    Ok(())
+}
+
+// ---- random histories
+
+fn run_kind(kind: Kind, count: u64) -> Met {
+    let mut met = Met::default();
+    let first = 700_000 + 10_000 * kind as u64;
+    for seed in first..first + count {
+        let history = history(&mut Rng::new(seed), kind);
+        if let Err(found) = run(&history, &mut met) {
+            panic!("seed {seed}, {kind:?}: {found}\n{history:?}");
+        }
+    }
+    println!("{kind:?}: {met:?}");
+    met
+}
+
+#[test]
+fn histories_of_many_sizes() {
+    for (kind, count) in
+        [(Kind::Small, 1_500), (Kind::Sparse, 150), (Kind::Dense, 60), (Kind::Withdrawals, 150)]
+    {
+        let met = run_kind(kind, count);
+        assert!(met.bids > 3_000 && met.displaced > 1_000 && met.parts > 1_000 && met.ends > 500);
+    }
+}
+
+#[test]
+fn histories_full_of_ties() {
+    let met = run_kind(Kind::Ties, 600);
+    assert!(met.full > 1_000 && met.bar > 3_000 && met.decides > 1_000);
+    let met = run_kind(Kind::EqualUtility, 600);
+    assert!(met.weights > 1_500 && met.lower > 600 && met.full > 1_200 && met.decides > 300);
+}
+
+/// Slacks from 1/1,000 to 999/1,000, weights up to 1,000,000.
+#[test]
+fn histories_at_the_limits() {
+    let met = run_kind(Kind::Limits, 12);
+    assert!(met.calls > 1_200 && met.displaced > 1_000);
+}
+
+/// Several displaced at once, who displace others.
+#[test]
+fn histories_of_lists() {
+    let met = run_kind(Kind::Lists, 200);
+    assert!(met.several > 150 && met.displaced > 10_000 && met.weights > 100);
+}
+
+// ---- prices at the bar
+
+#[test]
+fn histories_near_the_bar() {
+    let mut met = Met::default();
+    for seed in 810_000..810_600 {
+        let history = history_near_the_bar(&mut Rng::new(seed));
+        if let Err(found) = run(&history, &mut met) {
+            panic!("seed {seed}: {found}\n{history:?}");
+        }
+    }
+    println!("{met:?}");
+    assert!(met.bar > 4_000 && met.decides > 2_000 && met.closed > 500 && met.displaced > 1_500);
+}
+
+// ---- sound boards that no history reaches
+
+fn weight_at(slides: &Slides, u: u64, v: u64) -> Fraction {
+    let edge = slides.edges[&v].iter().find(|(item, _)| *item == u);
+    edge.expect("items are allocated along edges").1
+}
+
+/// In every history the gain of a bidder that has an item is above ε times the weight.
+fn is_unreached(slides: &Slides) -> bool {
+    let bar = |u: u64, v: u64| slides.epsilon * weight_at(slides, u, v);
+    slides.allocated.iter().any(|(&u, &v)| slides.gains[&v] <= bar(u, v))
+}
+
+fn slides_of(b: &ffi::Auction) -> Slides {
+    let mut slides = Slides::open(b.items, b.slack.p, b.slack.q);
+    let pence = |cell: ffi::Scaled| Fraction::new(cell.0 as i64, b.slack.q as i64);
+    for row in b.weights.chunks(MAX_ITEMS).take(b.arrived as usize) {
+        let edges = (1..).zip(row).filter(|(_, &weight)| weight != 0);
+        slides.arrive(edges.map(|(item, &weight)| (item, weight as u64)));
+    }
+    slides.waiting.clear();
+    for (u, cell) in (1..=b.items).zip(0..) {
+        slides.prices.insert(u, pence(b.price[cell]));
+        let holder = b.holder[cell] as u64;
+        if holder != 0 {
+            slides.allocated.insert(u, holder);
+            slides.gains.insert(holder, pence(b.gain[holder as usize - 1]));
+        }
+    }
+    slides.withdraw(&items_of(&record(b), true));
+    slides
+}
+
+#[test]
+fn sound_boards_that_no_history_reaches() {
+    let (mut met, mut unreached) = (Met::default(), 0);
+    for seed in 820_000..820_250 {
+        let rng = &mut Rng::new(seed);
+        let mut ours = board(&sound(rng));
+        let mut slides = slides_of(&ours);
+        unreached += is_unreached(&slides) as u64;
+        let mut found = equal_lists(&ours, &slides);
+        for _ in 0..6 {
+            let call = call_near_the_bar(rng, &ours);
+            found = found.and_then(|_| step(&mut ours, &mut slides, &call, &mut met));
+        }
+        found.unwrap_or_else(|found| panic!("seed {seed}: {found}\n{:?}", record(&ours)));
+    }
+    println!("{unreached} boards unreached: {met:?}");
+    assert!(unreached > 125 && met.displaced > 10_000 && met.bar > 1_000 && met.decides > 200);
+}
+
+// ---- whole texts
+
+/// What the program prints for an accepted text, up to the number in the last line.
+fn printed(slides: &Slides, history: &History, bids: u64) -> String {
+    let [matching, prices, gains] = lists(slides, history.items, history.slack.q);
+    let mut out = String::new();
+    for (v, (u, gain)) in (1..).zip(matching.iter().zip(&gains)) {
+        out.push_str(&format!("P\t{v}\t{u}\t{gain}\n"));
+    }
+    for u in slides.prices.keys() {
+        out.push_str(&format!("Y\t{u}\t{}\n", prices[*u as usize - 1]));
+    }
+    let held = slides.allocated.iter().map(|(&u, &v)| weight_at(slides, u, v));
+    let weight: u64 = held.map(|weight| scaled(Some(&weight), 1)).sum();
+    let sum: u64 = prices.iter().chain(&gains).sum();
+    out + &format!("T\t{weight}\t{sum}\t{bids}\nE\t")
+}
+
+/// A history's text, replayed and planned.
+fn run_text(history: &History, met: &mut Met) -> Same<()> {
+    let mut slides = Slides::open(history.items, history.slack.p, history.slack.q);
+    let mut bids = 0;
+    for call in &history.calls {
+        enter(&mut slides, call);
+        bids += slides.run(|slides, v| met.look(slides, v));
+    }
+    let text = write(history);
+    let after = ffi::replay(&text);
+    equal("replay", after.told(), Told { number: 0, place: 0, value: bids })?;
+    equal_lists(&after.board, &slides)?;
+    let mut out = vec![0; ffi::MAX_OUTPUT];
+    let told = ffi::plan_text(&text, &mut out);
+    let (expected, plan) = (printed(&slides, history, bids), shown(&out[..told.value as usize]));
+    let greatest = plan.strip_prefix(&expected).map(|rest| rest.trim_end_matches('\n'));
+    let agrees = told.number == 0 && greatest.is_some_and(|rest| rest.parse::<u64>().is_ok());
+    equal("the plan", agrees, true).map_err(|found| format!("{found}\n{plan}\n{expected}"))
+}
+
+#[test]
+fn texts_of_histories() {
+    let mut met = Met::default();
+    let served = Kind::ALL.into_iter().filter(|&kind| kind != Kind::Refused);
+    let counts = served.map(|kind| (kind, if kind == Kind::Limits { 4 } else { 60 }));
+    let mut histories = vec![staircase(64), level(64, 128), slope(64)];
+    for (kind, count) in counts {
+        let rng = &mut Rng::new(830_000 + kind as u64);
+        histories.extend((0..count).map(|_| history(rng, kind)));
+    }
+    let rng = &mut Rng::new(840_000);
+    histories.extend((0..100).map(|_| history_near_the_bar(rng)));
+    // "an empty list changes nothing in a call and is badly formed as a line".
+    let nothing = |call: &Call| matches!(call, Call::Withdraw(items) if items.is_empty());
+    for history in &mut histories {
+        history.calls.retain(|call| !nothing(call));
+        let found = run_text(history, &mut met);
+        found.unwrap_or_else(|found| panic!("{found}\n{history:?}"));
+    }
+    println!("{} texts: {met:?}", histories.len());
+    assert!(histories.len() > 500 && met.displaced > 10_000);
+    assert!(met.weights > 200 && met.full > 500 && met.bar > 1_000 && met.decides > 500);
+}
+
+// ---- by hand
+
+/// A turn in quarters of a penny: the bidder, its open items with their utilities; then
+/// the item picked, its price after the bid, and who had it, 0 for nobody.
+struct Turn(u64, &'static [(u64, i64)], Option<(u64, i64, u64)>);
+
+/// What a call is given.
+enum Given {
+    Edges(&'static [(u64, u64)]),
+    Items(&'static [u64]),
+}
+
+impl Given {
+    fn call(&self) -> Call {
+        let edge = |&(item, weight): &(u64, u64)| Edge { item, weight };
+        match self {
+            Given::Edges(edges) => Call::Arrive(edges.iter().map(edge).collect()),
+            Given::Items(items) => Call::Withdraw(items.to_vec()),
+        }
+    }
+}
+
+/// A call, its turns, and the matching, prices and gains that it leaves, in quarters too.
+type Worked = (Given, &'static [Turn], [&'static [u64]; 3]);
+
+/// ε is 1/4. Bidder 1 has the lower of two equal items, bidder 3 the larger of two weights
+/// of equal utility. Bidder 5 finds 20 - 15 = 1/4 · 20 at item 4, which is not open. Then
+/// bidders 2, 4 and 5 are displaced, and bidder 3 finds 3 - 9/4 = 1/4 · 3.
+const WORKED: [Worked; 6] = [
+    (
+        Given::Edges(&[(1, 8), (2, 8)]),
+        &[Turn(1, &[(1, 32), (2, 32)], Some((1, 8, 0)))],
+        [&[1], &[8, 0, 0, 0], &[32]],
+    ),
+    (
+        Given::Edges(&[(1, 13), (2, 12), (3, 6)]),
+        &[Turn(2, &[(1, 44), (2, 48), (3, 24)], Some((2, 12, 0)))],
+        [&[1, 2], &[8, 12, 0, 0], &[32, 48]],
+    ),
+    (
+        Given::Edges(&[(1, 10), (2, 11), (3, 3)]),
+        &[
+            Turn(3, &[(1, 32), (2, 32), (3, 12)], Some((2, 23, 2))),
+            Turn(2, &[(1, 44), (2, 25), (3, 24)], Some((1, 21, 1))),
+            Turn(1, &[(1, 11), (2, 9)], Some((1, 29, 2))),
+            Turn(2, &[(1, 23), (2, 25), (3, 24)], Some((2, 35, 3))),
+            Turn(3, &[(1, 11), (3, 12)], Some((3, 3, 0))),
+        ],
+        [&[1, 2, 3], &[29, 35, 3, 0], &[11, 25, 12]],
+    ),
+    (
+        Given::Edges(&[(3, 4), (4, 60)]),
+        &[Turn(4, &[(3, 13), (4, 240)], Some((4, 60, 0)))],
+        [&[1, 2, 3, 4], &[29, 35, 3, 60], &[11, 25, 12, 240]],
+    ),
+    (
+        Given::Edges(&[(2, 13), (3, 5), (4, 20)]),
+        &[
+            Turn(5, &[(2, 17), (3, 17)], Some((2, 48, 2))),
+            Turn(2, &[(1, 23), (3, 21)], Some((1, 42, 1))),
+            Turn(1, &[], None),
+        ],
+        [&[0, 1, 3, 4, 2], &[42, 48, 3, 60], &[0, 23, 12, 240, 17]],
+    ),
+    (
+        Given::Items(&[1, 2, 4]),
+        &[
+            Turn(2, &[(3, 21)], Some((3, 9, 3))),
+            Turn(3, &[], None),
+            Turn(4, &[(3, 7)], Some((3, 13, 2))),
+            Turn(2, &[(3, 11)], Some((3, 19, 4))),
+            Turn(4, &[], None),
+            Turn(5, &[], None),
+        ],
+        [&[0, 3, 0, 0, 0], &[0, 0, 19, 0], &[0, 11, 0, 0, 0]],
+    ),
+];
+
+/// One turn, step by step.
+fn turn_by_hand(slides: &mut Slides, &Turn(v, offers, taken): &Turn) {
+    let quarters = |n: i64| Fraction::new(n, 4);
+    assert_eq!(slides.waiting.pop_front(), Some(v));
+    let open = slides.test_open(v);
+    let expected: Vec<_> = offers.iter().map(|&(u, utility)| (u, quarters(utility))).collect();
+    assert_eq!(open.iter().map(|uv| (uv.item, uv.utility)).collect::<Vec<_>>(), expected);
+    let picked = Slides::pick(&open);
+    assert_eq!(picked.map(|uv| uv.item), taken.map(|(u, _, _)| u));
+    let Some((picked, (u, price, had))) = picked.zip(taken) else { return };
+    slides.price(picked);
+    assert_eq!(slides.prices[&u], quarters(price));
+    assert_eq!(slides.allocated.get(&u).map_or(0, |&v| v), had, "not handed over yet");
+    slides.hand_over(v, picked);
+    assert_eq!((slides.allocated[&u], slides.gains[&v]), (v, picked.utility));
+    assert!(had == 0 || slides.waiting.front() == Some(&had) && !slides.gains.contains_key(&had));
+}
+
+/// The steps, the while around them and the library's calls come to what was worked out.
+#[test]
+fn a_chain_by_hand() {
+    let (mut slides, mut ours) = (Slides::open(4, 1, 4), ffi::open(4, 1, 4).board);
+    for (given, turns, left) in WORKED {
+        let call = given.call();
+        enter(&mut slides, &call);
+        let (mut whole, mut bidders) = (slides.clone(), Vec::new());
+        turns.iter().for_each(|turn| turn_by_hand(&mut slides, turn));
+        assert_eq!(lists(&slides, 4, 4), left.map(|list| list.to_vec()));
+        let bids = turns.iter().filter(|turn| turn.2.is_some()).count() as u64;
+        assert_eq!(whole.run(|_, v| bidders.push(v)), bids);
+        assert_eq!(bidders, turns.iter().map(|turn| turn.0).collect::<Vec<u64>>());
+        assert!(lists(&whole, 4, 4) == lists(&slides, 4, 4) && is_settled(&slides));
+        let after = call_ours(ours, &call);
+        assert_eq!(after.told(), Told { number: 0, place: 0, value: bids });
+        assert_eq!(equal_lists(&after.board, &slides), Ok(()));
+        ours = after.board;
+    }
+}
+
+#[test]
+fn fractions_are_exact() {
+    let [tenth, third] = [Fraction::new(1, 10), Fraction::new(1, 3)];
+    assert_eq!(tenth + tenth + tenth, Fraction::new(3, 10));
+    assert_eq!(Fraction::new(6, 8), Fraction::new(3, 4));
+    assert_eq!(Fraction::new(0, 7), Fraction::whole(0));
+    assert_eq!((third * Fraction::whole(6)).to_whole(), Some(2));
+    assert_eq!((third - Fraction::new(1, 2), third.to_whole()), (Fraction::new(-1, 6), None));
+    assert!(Fraction::new(333, 1_000) < third && third < Fraction::new(334, 1_000));
+    assert!(Fraction::new(-1, 2) < Fraction::new(-1, 3) && third > tenth);
+}
