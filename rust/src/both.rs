@@ -2,6 +2,7 @@
 //! made on both, and answers, boards and lent lists must be equal.
 
 use crate::ffi::{self, Told};
+use crate::gen::history::History;
 use crate::model::auction::*;
 use crate::model::calls::*;
 use crate::model::check::{Claim, Totals};
@@ -50,7 +51,7 @@ impl Tally {
 }
 
 pub struct Both<'a> {
-    pub ours: ffi::Auction,
+    pub ours: ffi::Board,
     pub model: Record,
     pub seen: &'a mut Tally,
 }
@@ -66,13 +67,14 @@ pub fn equal<T: PartialEq + Debug>(what: &str, ours: T, model: T) -> Same<()> {
 }
 
 /// The library's board with the numbers of the model's record.
-pub fn board(r: &Record) -> ffi::Auction {
-    let mut weights = [0; MAX_BIDDERS * MAX_ITEMS];
-    for (row, cells) in r.rows.iter().zip(weights.chunks_exact_mut(MAX_ITEMS)) {
+pub fn board(r: &Record) -> ffi::Board {
+    let mut weights = [0; MAX_BIDDERS * MAX_PLACES];
+    for (row, cells) in r.rows.iter().zip(weights.chunks_exact_mut(MAX_PLACES)) {
         cells.copy_from_slice(row);
     }
-    ffi::Auction {
-        items: r.items,
+    ffi::Board {
+        items: ffi::Items { count: r.items, places: r.counts },
+        places: r.places,
         slack: ffi::Slack { p: r.slack.p, q: r.slack.q },
         arrived: r.arrived,
         price: r.price.map(ffi::Scaled),
@@ -84,16 +86,18 @@ pub fn board(r: &Record) -> ffi::Auction {
 }
 
 /// The model's record with the numbers of the library's board.
-pub fn record(b: &ffi::Auction) -> Record {
+pub fn record(b: &ffi::Board) -> Record {
     let mut r = Record::zero();
-    r.items = b.items;
+    r.items = b.items.count;
+    r.counts = b.items.places;
+    r.places = b.places;
     r.slack = Slack { p: b.slack.p, q: b.slack.q };
     r.arrived = b.arrived;
     r.price = b.price.map(|y| y.0);
     r.holder = b.holder;
     r.withdrawn = b.withdrawn;
     r.gain = b.gain.map(|g| g.0);
-    for (row, cells) in r.rows.iter_mut().zip(b.weights.chunks_exact(MAX_ITEMS)) {
+    for (row, cells) in r.rows.iter_mut().zip(b.weights.chunks_exact(MAX_PLACES)) {
         row.copy_from_slice(cells);
     }
     r
@@ -128,10 +132,14 @@ fn difference(ours: &Record, model: &Record) -> String {
         }
     };
     note("items".into(), ours.items, model.items);
+    note("places".into(), ours.places, model.places);
     note("p".into(), ours.slack.p, model.slack.p);
     note("q".into(), ours.slack.q, model.slack.q);
     note("arrived".into(), ours.arrived, model.arrived);
     for i in 0..MAX_ITEMS {
+        note(format!("count {}", i + 1), ours.counts[i] as u64, model.counts[i] as u64);
+    }
+    for i in 0..MAX_PLACES {
         note(format!("price {}", i + 1), ours.price[i], model.price[i]);
         note(format!("holder {}", i + 1), ours.holder[i] as u64, model.holder[i] as u64);
         let gone = (ours.withdrawn[i] as u64, model.withdrawn[i] as u64);
@@ -139,7 +147,7 @@ fn difference(ours: &Record, model: &Record) -> String {
     }
     for b in 0..MAX_BIDDERS {
         note(format!("gain {}", b + 1), ours.gain[b], model.gain[b]);
-        for i in 0..MAX_ITEMS {
+        for i in 0..MAX_PLACES {
             let cells = (ours.rows[b][i] as u64, model.rows[b][i] as u64);
             note(format!("weight {} {}", b + 1, i + 1), cells.0, cells.1);
         }
@@ -149,7 +157,7 @@ fn difference(ours: &Record, model: &Record) -> String {
 }
 
 /// The two boards are equal in every byte.
-pub fn equal_boards(what: &str, ours: &ffi::Auction, model: &Record) -> Same<()> {
+pub fn equal_boards(what: &str, ours: &ffi::Board, model: &Record) -> Same<()> {
     if *ours == board(model) {
         return Ok(());
     }
@@ -191,16 +199,34 @@ impl Both<'_> {
         Both { ours: board(&model), model, seen }
     }
 
-    /// A board opened on both sides, or the refusal of both.
+    /// A board of items with one place each, opened on both sides, or the refusal of both.
     pub fn open(items: u64, slack: Slack, seen: &mut Tally) -> Same<Result<Both<'_>, Refusal>> {
-        let after = ffi::open(items, slack.p, slack.q);
-        let opened = open_record(items, slack);
+        Both::open_places(items, slack, &ones(items), seen)
+    }
+
+    /// The same of items with so many places.
+    pub fn open_places<'a>(
+        items: u64,
+        slack: Slack,
+        counts: &[u64],
+        seen: &'a mut Tally,
+    ) -> Same<Result<Both<'a>, Refusal>> {
+        let lent = counts.to_vec();
+        let after = ffi::open_places(items, slack.p, slack.q, &lent);
+        equal("open, the counts kept", &black_box(lent)[..], counts)?;
+        let opened = open_record(items, slack, counts);
         let expected = opened.as_ref().map(|_| 0).map_err(|refusal| *refusal);
         equal("open", after.told(), told(expected))?;
         seen.note("open", &opened);
         let model = opened.clone().unwrap_or_else(|_| Record::zero());
         equal_boards("open", &after.board, &model)?;
         Ok(opened.map(|model| Both { ours: after.board, model, seen }))
+    }
+
+    /// The board of a history before its calls.
+    pub fn opened<'a>(history: &History, seen: &'a mut Tally) -> Same<Both<'a>> {
+        let both = Both::open_places(history.items(), history.slack, &history.counts, seen)?;
+        Ok(both.expect("it opens"))
     }
 
     pub fn arrive(&mut self, edges: &[Edge]) -> Same<Result<u64, Refusal>> {
@@ -232,7 +258,7 @@ impl Both<'_> {
 
     /// A refused call has left the model's board alone, so ours is compared
     /// with the board before the call.
-    fn accept(&mut self, call: &str, after: ffi::Auction) -> Same<()> {
+    fn accept(&mut self, call: &str, after: ffi::Board) -> Same<()> {
         equal_boards(call, &after, &self.model)?;
         self.ours = after;
         Ok(())
@@ -290,7 +316,7 @@ impl Both<'_> {
             gain: g[..cells[2] as usize].to_vec(),
             slack: Slack { p: 0, q: 1 },
         };
-        let gone = self.model.withdrawn.iter().zip(&claim.price).filter(|(gone, _)| **gone != 0);
+        let gone = claim.price.iter().enumerate().filter(|(item, _)| self.model.is_gone(*item));
         equal("exact, prices of withdrawn items", gone.map(|(_, y)| y).sum::<u64>(), 0)?;
         let answer = self.check(&claim)?;
         equal("exact, its totals", answer, Ok(Totals { weight, sum: weight }))?;

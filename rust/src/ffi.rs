@@ -4,9 +4,14 @@
 //! checks the one against the other. A slice crosses as a pointer and a length.
 //! No call asks anything of its caller, so each wrapper is safe for all it takes.
 
+use std::mem::{offset_of, size_of};
+use std::ops::Range;
+
 pub const MAX_ITEMS: usize = 64;
+/// Of all items.
+pub const MAX_PLACES: usize = 64;
 pub const MAX_BIDDERS: usize = 128;
-pub const MAX_CELLS: usize = MAX_ITEMS * MAX_BIDDERS;
+pub const MAX_CELLS: usize = MAX_PLACES * MAX_BIDDERS;
 /// One more edge than there are items.
 pub const MAX_EDGES: usize = MAX_ITEMS + 1;
 /// No output of a text is longer.
@@ -46,19 +51,30 @@ pub struct EdgeBuffer {
     pub count: u64,
 }
 
+/// How many items there are, and how many places each has.
 #[repr(C)]
 #[derive(Clone, Copy, Debug, PartialEq, Eq)]
-pub struct Auction {
-    pub items: u64,
+pub struct Items {
+    pub count: u64,
+    pub places: [u8; MAX_ITEMS],
+}
+
+/// Places are numbered through in item order, those of an item side by side.
+#[repr(C)]
+#[derive(Clone, Copy, Debug, PartialEq, Eq)]
+pub struct Board {
+    pub items: Items,
+    /// How many places there are in all.
+    pub places: u64,
     pub slack: Slack,
     pub arrived: u64,
-    /// 1 for an item that is withdrawn, 0 for one that is not.
-    pub withdrawn: [u8; MAX_ITEMS],
-    pub price: [Scaled; MAX_ITEMS],
-    /// The number of the bidder that holds each item, 0 where nobody does.
-    pub holder: [u8; MAX_ITEMS],
+    /// 1 for a place of an item that is withdrawn, 0 for one of an item that is not.
+    pub withdrawn: [u8; MAX_PLACES],
+    pub price: [Scaled; MAX_PLACES],
+    /// The number of the bidder that holds each place, 0 where nobody does.
+    pub holder: [u8; MAX_PLACES],
     pub gain: [Scaled; MAX_BIDDERS],
-    /// Bidder i + 1's edge at item k + 1 is cell 64 × i + k, 0 where there is none.
+    /// Bidder i + 1's edge at place k + 1 is cell 64 × i + k, 0 where there is none.
     pub weights: [u32; MAX_CELLS],
 }
 
@@ -75,13 +91,14 @@ pub struct Told {
 #[repr(C)]
 #[derive(Clone, Copy, Debug, PartialEq, Eq)]
 pub struct Answer {
-    pub board: Auction,
+    pub board: Board,
     pub number: u64,
     pub place: u64,
     pub value: u64,
 }
 
-/// The check's answer: the matching's weight, and the sum of prices and gains.
+/// The check's answer: the matching's weight, and the sum of gains and of prices, an item's
+/// once per place.
 #[repr(C)]
 #[derive(Clone, Copy, Debug, PartialEq, Eq)]
 pub struct Totals {
@@ -102,6 +119,14 @@ pub struct Comparison {
     pub order: u64,
 }
 
+/// The sizes that include/noughtelm.h asserts.
+const _: () = assert!(size_of::<Items>() == 72);
+const _: () = assert!(size_of::<Board>() == 34_536);
+const _: () = assert!(size_of::<Answer>() == 34_560);
+const _: () = assert!(offset_of!(Board, places) == 72);
+const _: () = assert!(offset_of!(Board, price) == 168);
+const _: () = assert!(offset_of!(Board, weights) == 1_768);
+
 impl EdgeBuffer {
     /// The first 65 edges, and how many there are in all.
     pub fn new(edges: &[Edge]) -> Self {
@@ -118,6 +143,14 @@ impl EdgeBuffer {
     }
 }
 
+impl Board {
+    /// The places of an item, from 0, where the counts add up to the places.
+    pub fn places_of(&self, item: usize) -> Range<usize> {
+        let before: usize = self.items.places[..item].iter().map(|&count| count as usize).sum();
+        before..before + self.items.places[item] as usize
+    }
+}
+
 impl Answer {
     /// The answer without its board.
     pub fn told(&self) -> Told {
@@ -126,16 +159,22 @@ impl Answer {
 }
 
 mod raw {
-    use super::{Answer, Auction, Comparison, Edge, EdgeBuffer, Told, Totals};
+    use super::{Answer, Board, Comparison, Edge, EdgeBuffer, Told, Totals};
 
     extern "C" {
-        pub fn noughtelm_open(items: u64, p: u64, q: u64) -> Answer;
-        pub fn noughtelm_arrive(board: Auction, edges: *const Edge, len: usize) -> Answer;
-        pub fn noughtelm_arrive_buffer(board: Auction, buffer: EdgeBuffer) -> Answer;
-        pub fn noughtelm_withdraw(board: Auction, items: *const u64, len: usize) -> Answer;
-        pub fn noughtelm_is_sound(board: Auction) -> bool;
+        pub fn noughtelm_open(
+            items: u64,
+            p: u64,
+            q: u64,
+            counts: *const u64,
+            counts_len: usize,
+        ) -> Answer;
+        pub fn noughtelm_arrive(board: Board, edges: *const Edge, len: usize) -> Answer;
+        pub fn noughtelm_arrive_buffer(board: Board, buffer: EdgeBuffer) -> Answer;
+        pub fn noughtelm_withdraw(board: Board, items: *const u64, len: usize) -> Answer;
+        pub fn noughtelm_is_sound(board: Board) -> bool;
         pub fn noughtelm_read_out(
-            board: Auction,
+            board: Board,
             plan: *mut u64,
             plan_len: usize,
             prices: *mut u64,
@@ -144,7 +183,7 @@ mod raw {
             gains_len: usize,
         ) -> Told;
         pub fn noughtelm_exact(
-            board: Auction,
+            board: Board,
             plan: *mut u64,
             plan_len: usize,
             prices: *mut u64,
@@ -153,7 +192,7 @@ mod raw {
             gains_len: usize,
         ) -> Told;
         pub fn noughtelm_check(
-            board: Auction,
+            board: Board,
             plan: *const u64,
             plan_len: usize,
             prices: *const u64,
@@ -164,7 +203,7 @@ mod raw {
             q: u64,
         ) -> Totals;
         pub fn noughtelm_compare(
-            board: Auction,
+            board: Board,
             first: *const u64,
             first_len: usize,
             second: *const u64,
@@ -185,7 +224,7 @@ mod raw {
             out: *mut u8,
             out_len: usize,
         ) -> Told;
-        pub fn noughtelm_write_page(board: Auction, page: *mut u8, page_len: usize) -> Told;
+        pub fn noughtelm_write_page(board: Board, page: *mut u8, page_len: usize) -> Told;
         pub fn noughtelm_read_page(
             text: *const u8,
             len: usize,
@@ -205,33 +244,38 @@ mod raw {
     }
 }
 
-/// Opens a board.
+/// Opens a board of items with one place each.
 pub fn open(items: u64, p: u64, q: u64) -> Answer {
-    unsafe { raw::noughtelm_open(items, p, q) }
+    open_places(items, p, q, &[1; MAX_ITEMS][..items.min(MAX_ITEMS as u64) as usize])
+}
+
+/// Opens a board of items with so many places each.
+pub fn open_places(items: u64, p: u64, q: u64, counts: &[u64]) -> Answer {
+    unsafe { raw::noughtelm_open(items, p, q, counts.as_ptr(), counts.len()) }
 }
 
 /// A new bidder arrives with a list of edges of any length; the value is the number of bids.
-pub fn arrive(board: Auction, edges: &[Edge]) -> Answer {
+pub fn arrive(board: Board, edges: &[Edge]) -> Answer {
     unsafe { raw::noughtelm_arrive(board, edges.as_ptr(), edges.len()) }
 }
 
 /// A new bidder arrives with the edges of a buffer; the value is the number of bids.
-pub fn arrive_buffer(board: Auction, buffer: EdgeBuffer) -> Answer {
+pub fn arrive_buffer(board: Board, buffer: EdgeBuffer) -> Answer {
     unsafe { raw::noughtelm_arrive_buffer(board, buffer) }
 }
 
 /// A list of items of any length is withdrawn; the value is the number of bids.
-pub fn withdraw(board: Auction, items: &[u64]) -> Answer {
+pub fn withdraw(board: Board, items: &[u64]) -> Answer {
     unsafe { raw::noughtelm_withdraw(board, items.as_ptr(), items.len()) }
 }
 
 /// Whether a board is sound.
-pub fn is_sound(board: Auction) -> bool {
+pub fn is_sound(board: Board) -> bool {
     unsafe { raw::noughtelm_is_sound(board) }
 }
 
-/// Writes the matching, the prices and the gains.
-pub fn read_out(board: Auction, plan: &mut [u64], prices: &mut [u64], gains: &mut [u64]) -> Told {
+/// Writes the matching, the prices, an item's least, and the gains.
+pub fn read_out(board: Board, plan: &mut [u64], prices: &mut [u64], gains: &mut [u64]) -> Told {
     unsafe {
         raw::noughtelm_read_out(
             board,
@@ -246,7 +290,7 @@ pub fn read_out(board: Auction, plan: &mut [u64], prices: &mut [u64], gains: &mu
 }
 
 /// Writes an exact matching, prices and gains; the value is the greatest weight.
-pub fn exact(board: Auction, plan: &mut [u64], prices: &mut [u64], gains: &mut [u64]) -> Told {
+pub fn exact(board: Board, plan: &mut [u64], prices: &mut [u64], gains: &mut [u64]) -> Told {
     unsafe {
         raw::noughtelm_exact(
             board,
@@ -261,14 +305,7 @@ pub fn exact(board: Auction, plan: &mut [u64], prices: &mut [u64], gains: &mut [
 }
 
 /// Checks a matching, prices and gains at a slack p/q.
-pub fn check(
-    board: Auction,
-    plan: &[u64],
-    prices: &[u64],
-    gains: &[u64],
-    p: u64,
-    q: u64,
-) -> Totals {
+pub fn check(board: Board, plan: &[u64], prices: &[u64], gains: &[u64], p: u64, q: u64) -> Totals {
     unsafe {
         raw::noughtelm_check(
             board,
@@ -285,7 +322,7 @@ pub fn check(
 }
 
 /// Compares two plans.
-pub fn compare(board: Auction, first: &[u64], second: &[u64]) -> Comparison {
+pub fn compare(board: Board, first: &[u64], second: &[u64]) -> Comparison {
     unsafe {
         raw::noughtelm_compare(board, first.as_ptr(), first.len(), second.as_ptr(), second.len())
     }
@@ -312,7 +349,7 @@ pub fn sheet_text(text: &[u8], out: &mut [u8]) -> Told {
 }
 
 /// Writes the board's page; the value is the bytes.
-pub fn write_page(board: Auction, page: &mut [u8]) -> Told {
+pub fn write_page(board: Board, page: &mut [u8]) -> Told {
     unsafe { raw::noughtelm_write_page(board, page.as_mut_ptr(), page.len()) }
 }
 

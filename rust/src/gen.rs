@@ -1,4 +1,5 @@
-//! Makers of cases: histories, texts, sound and spoilt records, claims, pages, plans.
+//! Makers of cases: counts of places, histories, texts, sound and spoilt records, claims,
+//! pages, plans.
 
 pub mod board;
 pub mod claim;
@@ -6,6 +7,7 @@ pub mod history;
 pub mod items;
 pub mod list;
 pub mod page;
+pub mod places;
 pub mod plan;
 pub mod sheet;
 pub mod text;

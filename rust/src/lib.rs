@@ -1,4 +1,4 @@
-//! A second implementation of document 01 and of of document 02, for
+//! A second implementation of document 01 and of of document 02, for
 //! comparison with the proved one.
 //!
 //! `model` says what every call answers, simply and slowly; `page` writes and
@@ -7,9 +7,10 @@
 //! the proved one and the model and compares; `laws` are those of every sound
 //! board; `ties` bids one by one and counts what stood equal; `orders` withdraws
 //! so, in R-3's order and in others; `plans` says what R-4 asks of two plans otherwise
-//! than the model; `slides` bids in the steps of R-5; `program` runs the built program;
-//! `trial` runs the command ./plan.
+//! than the model; `slides` bids in the steps of R-5; `before` is the auction of before
+//! R-6, without places; `program` runs the built program; `trial` runs the command ./plan.
 
+pub mod before;
 pub mod both;
 pub mod fast;
 pub mod ffi;

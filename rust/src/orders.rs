@@ -1,9 +1,12 @@
 //! Withdrawals of several items bid by bid, in the order of R-3 and in others, so
 //! that a board can be seen to tell them apart.
 
-use crate::model::auction::*;
+use crate::model::auction::Place;
 use crate::ties::Walk;
 use std::collections::VecDeque;
+
+/// A price at which nothing is open.
+const CLOSED: u64 = 1 << 40;
 
 /// Who bids when.
 #[derive(Clone, Copy, Debug, PartialEq, Eq)]
@@ -11,31 +14,37 @@ pub enum Order {
     /// "All go first; then the displaced batches bid in number order, each chain run
     /// to its end" (document 02, R-3).
     Number,
-    /// All go first; then the displaced bid in the order of the items they held.
+    /// All go first; then the displaced bid in the order of the places they held.
     Item,
     /// All go first; then the displaced bid from the highest number down.
     Falling,
     /// All go first; then the displaced make one bid each, and whom they displace bids
     /// after them.
     Rounds,
-    /// Each item by itself, as document 01 withdraws one: its holder bids before the
+    /// Each item by itself, as document 01 withdraws one: its holders bid before the
     /// next item goes.
     OneByOne,
+    /// Each place by itself, so that its holder may bid at the item's next place.
+    PlaceByPlace,
 }
 
 impl Order {
-    /// Those that R-3 does not mean.
-    pub const OTHERS: [Order; 4] = [Order::Item, Order::Falling, Order::Rounds, Order::OneByOne];
+    /// Those that R-3 does not mean, nor R-6: "A withdrawal removes all places, with displaced
+    /// batches in R-3's order".
+    pub const OTHERS: [Order; 5] =
+        [Order::Item, Order::Falling, Order::Rounds, Order::OneByOne, Order::PlaceByPlace];
 }
 
 impl Walk {
     /// A withdrawal that is served, in this order.
     pub fn withdraw(&mut self, items: &[u64], order: Order) {
-        if order == Order::OneByOne {
-            return items.iter().for_each(|&item| self.withdraw_one(item));
+        match order {
+            Order::OneByOne => return items.iter().for_each(|&item| self.withdraw_one(item)),
+            Order::PlaceByPlace => return self.place_by_place(items),
+            _ => {}
         }
         let mut displaced: Vec<usize> =
-            items.iter().filter_map(|&item| self.auction.holder(item)).collect();
+            items.iter().flat_map(|&item| self.auction.holders(item)).collect();
         items.iter().for_each(|&item| self.remove(item));
         match order {
             Order::Number => displaced.sort(),
@@ -49,17 +58,30 @@ impl Walk {
     }
 
     /// Document 01, before R-3: "it leaves the live sheet and its price becomes 0. Its
-    /// holder, if any, is unplaced, gain 0, and bids."
+    /// holder, if any, is unplaced, gain 0, and bids." Several bid in number order.
     pub fn withdraw_one(&mut self, item: u64) {
-        let holder = self.auction.holder(item);
+        let mut holders = self.auction.holders(item);
+        holders.sort();
         self.remove(item);
-        holder.into_iter().for_each(|bidder| self.chain(bidder));
+        holders.into_iter().for_each(|bidder| self.chain(bidder));
     }
 
-    /// The item leaves the live sheet, and its holder is unplaced.
+    /// The item leaves the live sheet, and its holders are unplaced.
     fn remove(&mut self, item: u64) {
-        self.displace(self.auction.holder(item));
-        self.auction.items[item as usize - 1] = Item { price: 0, withdrawn: true };
+        self.auction.holders(item).into_iter().for_each(|holder| self.displace(Some(holder)));
+        self.auction.items[item as usize - 1].leave();
+    }
+
+    /// A place that has left is one at which nothing is open.
+    fn place_by_place(&mut self, items: &[u64]) {
+        let places: Vec<Place> = items.iter().flat_map(|&item| self.auction.places(item)).collect();
+        for place in places {
+            let holder = self.auction.holder(place);
+            self.displace(holder);
+            *self.auction.price_mut(place) = CLOSED;
+            holder.into_iter().for_each(|bidder| self.chain(bidder));
+        }
+        items.iter().for_each(|&item| self.remove(item));
     }
 
     fn rounds(&mut self, mut displaced: Vec<usize>) {

@@ -36,7 +36,7 @@ impl Row {
 /// A board's rows: of a placed bidder, the weight is that of its edge at its item.
 pub fn rows(auction: &Auction) -> Vec<Row> {
     let row = |bidder: &Bidder| {
-        let held = bidder.edges.iter().find(|edge| edge.item == bidder.item);
+        let held = bidder.edges.iter().find(|edge| edge.item == bidder.item());
         held.map_or(UNPLACED, |edge| Row {
             item: edge.item,
             weight: edge.weight,

@@ -1,7 +1,8 @@
 //! What R-4 of document 02 says of two plans, said otherwise than in the model: a key by
 //! which plans are sorted, and every refusal that is met.
 
-use crate::gen::sheet::{live, Sheet};
+use crate::gen::plan::{times, Ground};
+use crate::gen::sheet::Sheet;
 use crate::model::compare::Comparison;
 use crate::model::refusal::*;
 use crate::model::sound::Record;
@@ -19,8 +20,9 @@ pub fn key<'a>(live: &Sheet, plan: &'a [u64]) -> (Reverse<u64>, &'a [u64]) {
     (Reverse(weight_of(live, plan)), plan)
 }
 
-/// Every refusal that one plan meets, place by place.
-fn met_by(live: &Sheet, plan: &[u64]) -> Vec<Refusal> {
+/// Every refusal that one plan meets, place by place. "A plan may name a kettle once per
+/// place" (R-6).
+fn met_by(Ground { live, counts }: &Ground, plan: &[u64]) -> Vec<Refusal> {
     if plan.len() != live.len() {
         return vec![Refusal { number: UNEVEN, place: 0 }];
     }
@@ -29,8 +31,8 @@ fn met_by(live: &Sheet, plan: &[u64]) -> Vec<Refusal> {
         let cell = plan[bidder];
         let known = 1 <= cell && cell <= row.len() as u64;
         let edge = known && row[cell as usize - 1] != 0;
-        let named = plan[..bidder].contains(&cell);
-        if cell != 0 && (!edge || named) {
+        let full = edge && times(&plan[..=bidder], cell) > counts[cell as usize - 1];
+        if cell != 0 && (!edge || full) {
             all.push(Refusal { number: CLASH, place: bidder as u64 + 1 });
         }
     }
@@ -39,8 +41,8 @@ fn met_by(live: &Sheet, plan: &[u64]) -> Vec<Refusal> {
 
 /// "9 and 10 for the first plan, then 9 and 10 for the second", on a sound board.
 pub fn met(r: &Record, first: &[u64], second: &[u64]) -> Vec<Refusal> {
-    let live = live(r);
-    [first, second].iter().flat_map(|plan| met_by(&live, plan)).collect()
+    let ground = Ground::of(r);
+    [first, second].iter().flat_map(|plan| met_by(&ground, plan)).collect()
 }
 
 /// The first refusal met, or how the plans compare, on a sound board.
@@ -48,7 +50,7 @@ pub fn expected(r: &Record, first: &[u64], second: &[u64]) -> Result<Comparison,
     if let Some(&refusal) = met(r, first, second).first() {
         return Err(refusal);
     }
-    let live = live(r);
+    let Ground { live, .. } = Ground::of(r);
     let weights = [first, second].map(|plan| weight_of(&live, plan) as i64);
     let order = key(&live, first).cmp(&key(&live, second));
     Ok(Comparison { difference: weights[0] - weights[1], order })

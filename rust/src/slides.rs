@@ -3,10 +3,11 @@
 //!     While there is v in V unallocated, util(uv) > ε · w(uv),
 //!     v bids y_u + ε · w(uv) and allocated max util u.
 //!
-//! Left are the items u, right the bidders v (document 01: kettles and batches), all by
-//! their numbers from 1; an edge uv (an entry) has the weight w(uv) (its worth). Money
-//! is in pence and fractions of a penny; nothing is multiplied by q. Only calls that are
-//! served are made here. Nothing is taken from `model`.
+//! Left are the places u of the items, right the bidders v (document 01: kettles and
+//! batches), all by their numbers from 1; an edge uv (an entry), one at each place of its
+//! item, has the weight w(uv) (its worth). Money is in pence and fractions of a penny;
+//! nothing is multiplied by q. Only calls that are served are made here. Nothing is taken
+//! from `model`.
 
 use fraction::Fraction;
 use std::collections::{BTreeMap, VecDeque};
@@ -15,10 +16,14 @@ pub mod bar;
 pub mod beside;
 pub mod fraction;
 
-/// An edge of v at an item u that is not withdrawn, with util(uv) = w(uv) - y_u.
+/// An item's number and a place's in it: "As in source document 001 each place has its own
+/// price" (document 02, R-6).
+pub type Place = (u64, u64);
+
+/// An edge of v at a place u that is not withdrawn, with util(uv) = w(uv) - y_u.
 #[derive(Clone, Copy, Debug, PartialEq, Eq)]
 pub struct Offer {
-    pub item: u64,
+    pub place: Place,
     pub weight: Fraction,
     pub utility: Fraction,
 }
@@ -27,13 +32,13 @@ pub struct Offer {
 #[derive(Clone, Debug)]
 pub struct Slides {
     pub epsilon: Fraction,
-    /// y_u of each item that is not withdrawn.
-    pub prices: BTreeMap<u64, Fraction>,
+    /// y_u of each place that is not withdrawn.
+    pub prices: BTreeMap<Place, Fraction>,
     /// Each bidder's edges: items with weights.
     pub edges: BTreeMap<u64, Vec<(u64, Fraction)>>,
-    /// The bidder that an item is allocated to.
-    pub allocated: BTreeMap<u64, u64>,
-    /// The gain of each bidder that has an item; that of any other is 0.
+    /// The bidder that a place is allocated to.
+    pub allocated: BTreeMap<Place, u64>,
+    /// The gain of each bidder that has a place; that of any other is 0.
     pub gains: BTreeMap<u64, Fraction>,
     /// The unallocated bidders that are to bid, the next one first.
     pub waiting: VecDeque<u64>,
@@ -49,24 +54,25 @@ impl Slides {
     }
 
     /// Pick: max util u. "of two kettles with equal utility a batch takes the one with
-    /// the larger worth, and only then the lower number" (document 02, R-1).
+    /// the larger worth, and only then the lower number" (document 02, R-1); "the lower
+    /// place breaks a last tie" (R-6).
     pub fn pick(open: &[Offer]) -> Option<Offer> {
         let greatest = open.iter().map(|uv| uv.utility).max()?;
         let equal = open.iter().filter(|uv| uv.utility == greatest);
         let largest = equal.clone().map(|uv| uv.weight).max()?;
-        equal.filter(|uv| uv.weight == largest).min_by_key(|uv| uv.item).copied()
+        equal.filter(|uv| uv.weight == largest).min_by_key(|uv| uv.place).copied()
     }
 
     /// Price: y_u becomes y_u + ε · w(uv).
     pub fn price(&mut self, picked: Offer) {
-        let price = self.prices[&picked.item] + self.epsilon * picked.weight;
-        self.prices.insert(picked.item, price);
+        let price = self.prices[&picked.place] + self.epsilon * picked.weight;
+        self.prices.insert(picked.place, price);
     }
 
     /// Hand over: u is allocated to v, whose gain is the utility picked. The bidder that
     /// had u "is displaced, its gain becomes 0, and it bids next" (document 01).
     pub fn hand_over(&mut self, v: u64, picked: Offer) {
-        let displaced = self.allocated.insert(picked.item, v);
+        let displaced = self.allocated.insert(picked.place, v);
         self.gains.insert(v, picked.utility);
         if let Some(displaced) = displaced {
             self.gains.remove(&displaced);
@@ -76,10 +82,12 @@ impl Slides {
 }
 
 impl Slides {
-    pub fn open(items: u64, p: u64, q: u64) -> Slides {
+    pub fn open(counts: &[u64], p: u64, q: u64) -> Slides {
+        let places =
+            (1..).zip(counts).flat_map(|(item, &count)| (1..=count).map(move |n| (item, n)));
         Slides {
             epsilon: Fraction::new(p as i64, q as i64),
-            prices: (1..=items).map(|u| (u, Fraction::whole(0))).collect(),
+            prices: places.map(|u| (u, Fraction::whole(0))).collect(),
             edges: BTreeMap::new(),
             allocated: BTreeMap::new(),
             gains: BTreeMap::new(),
@@ -88,11 +96,11 @@ impl Slides {
     }
 
     pub fn offers(&self, v: u64) -> Vec<Offer> {
-        let offer = |&(item, weight): &(u64, Fraction)| {
-            let price = *self.prices.get(&item)?;
-            Some(Offer { item, weight, utility: weight - price })
+        let at_item = |&(item, weight): &(u64, Fraction)| {
+            let places = self.prices.range((item, 0)..(item + 1, 0));
+            places.map(move |(&place, &y)| Offer { place, weight, utility: weight - y })
         };
-        self.edges[&v].iter().filter_map(offer).collect()
+        self.edges[&v].iter().flat_map(at_item).collect()
     }
 
     /// A new bidder is unallocated.
@@ -103,11 +111,13 @@ impl Slides {
     }
 
     /// "All go first; then the displaced batches bid in number order, each chain run to
-    /// its end" (document 02, R-3).
+    /// its end" (document 02, R-3); "A withdrawal removes all places" (R-6).
     pub fn withdraw(&mut self, items: &[u64]) {
-        self.prices.retain(|u, _| !items.contains(u));
-        let mut displaced: Vec<u64> =
-            items.iter().filter_map(|u| self.allocated.remove(u)).collect();
+        self.prices.retain(|(item, _), _| !items.contains(item));
+        let leaving = |(item, _): &Place| items.contains(item);
+        let held = self.allocated.iter().filter(|(u, _)| leaving(u));
+        let mut displaced: Vec<u64> = held.map(|(_, &v)| v).collect();
+        self.allocated.retain(|u, _| !leaving(u));
         displaced.sort();
         self.gains.retain(|v, _| !displaced.contains(v));
         self.waiting.extend(displaced);

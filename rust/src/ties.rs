@@ -7,10 +7,12 @@ use crate::model::auction::*;
 use crate::orders::Order;
 use std::ops::AddAssign;
 
-/// A live edge of a bidder that bids.
+/// A live edge of a bidder that bids, at a place of its item: "a batch compares places"
+/// (document 02, R-6).
 #[derive(Clone, Copy, Debug, PartialEq, Eq)]
 pub struct Offer {
-    pub edge: Edge,
+    pub weight: u64,
+    pub place: Place,
     /// "The utility is q × w - Y."
     pub utility: i64,
     /// "The entry is open if the utility is greater than p × w; equality is not open."
@@ -29,22 +31,35 @@ pub struct Ties {
     pub weights: u64,
     /// An open one at a lower item.
     pub lower: u64,
-    /// An open one of the same weight.
+    /// An open one of the same weight, at another item.
     pub full: u64,
     /// A heavier one that is not open.
     pub closed: u64,
+    /// The same one, at another place.
+    pub places: u64,
+    /// The same one at another place, and one of the same weight at another item.
+    pub both: u64,
+    /// Bids at which the same one had a smaller utility at a lower place.
+    pub cheaper: u64,
 }
 
 impl Ties {
     pub fn note(&mut self, offers: &[Offer], taken: Offer) {
-        let Edge { item, weight } = taken.edge;
-        let equal = offers.iter().filter(|o| o.utility == taken.utility && o.edge.item != item);
+        let Offer { weight, place, .. } = taken;
+        let (own, others): (Vec<&Offer>, Vec<&Offer>) =
+            offers.iter().filter(|o| o.place != place).partition(|o| o.place.item == place.item);
+        let equal = others.into_iter().filter(|o| o.utility == taken.utility);
         let (open, closed): (Vec<&Offer>, Vec<&Offer>) = equal.partition(|o| o.open);
+        let full = open.iter().any(|o| o.weight == weight);
+        let places = own.iter().any(|o| o.utility == taken.utility);
         self.bids += 1;
-        self.weights += open.iter().any(|o| o.edge.weight != weight) as u64;
-        self.lower += open.iter().any(|o| o.edge.item < item) as u64;
-        self.full += open.iter().any(|o| o.edge.weight == weight) as u64;
-        self.closed += closed.iter().any(|o| o.edge.weight > weight) as u64;
+        self.weights += open.iter().any(|o| o.weight != weight) as u64;
+        self.lower += open.iter().any(|o| o.place < place) as u64;
+        self.full += full as u64;
+        self.closed += closed.iter().any(|o| o.weight > weight) as u64;
+        self.places += places as u64;
+        self.both += (full && places) as u64;
+        self.cheaper += own.iter().any(|o| o.place < place) as u64;
     }
 }
 
@@ -55,37 +70,44 @@ impl AddAssign for Ties {
         self.lower += more.lower;
         self.full += more.full;
         self.closed += more.closed;
+        self.places += more.places;
+        self.both += more.both;
+        self.cheaper += more.cheaper;
     }
 }
 
 pub fn offers(auction: &Auction, bidder: usize) -> Vec<Offer> {
     let Slack { p, q } = auction.slack;
     let live = auction.bidders[bidder].edges.iter().filter(|&&edge| auction.is_live(edge));
-    live.map(|&edge| {
-        let price = auction.items[edge.item as usize - 1].price;
-        let utility = (q * edge.weight) as i64 - price as i64;
-        Offer { edge, utility, open: utility > (p * edge.weight) as i64 }
+    live.flat_map(|&Edge { item, weight }| {
+        auction.places(item).map(move |place| {
+            let utility = (q * weight) as i64 - auction.price(place) as i64;
+            Offer { weight, place, utility, open: utility > (p * weight) as i64 }
+        })
     })
     .collect()
 }
 
 /// "Of two kettles with equal utility a batch takes the one with the larger worth,
-/// and only then the lower number" (document 02, R-1); of two others, document
-/// 01's, the one of greater utility.
+/// and only then the lower number" (document 02, R-1), "and the lower place breaks a last
+/// tie" (R-6); of two others, document 01's, the one of greater utility.
 fn comes_first(one: &Offer, other: &Offer) -> bool {
     if one.utility != other.utility {
         return one.utility > other.utility;
     }
-    if one.edge.weight != other.edge.weight {
-        return one.edge.weight > other.edge.weight;
+    if one.weight != other.weight {
+        return one.weight > other.weight;
     }
-    one.edge.item < other.edge.item
+    if one.place.item != other.place.item {
+        return one.place.item < other.place.item;
+    }
+    one.place.number < other.place.number
 }
 
 /// The open offer that comes first in every pair with another open one.
 pub fn by_pairs(offers: &[Offer]) -> Option<Offer> {
     let open: Vec<&Offer> = offers.iter().filter(|o| o.open).collect();
-    let others = |one: &Offer| open.iter().filter(|o| o.edge.item != one.edge.item).count();
+    let others = |one: &Offer| open.iter().filter(|o| o.place != one.place).count();
     let won = |one: &Offer| open.iter().filter(|o| comes_first(one, o)).count();
     let first: Vec<&Offer> = open.iter().copied().filter(|one| won(one) == others(one)).collect();
     assert_eq!(first.len(), !open.is_empty() as usize, "not one that comes first: {open:?}");
@@ -103,8 +125,7 @@ pub struct Walk {
 
 impl Walk {
     pub fn open(history: &History, rule: Rule) -> Walk {
-        let auction = Auction::open(history.items, history.slack).expect("it opens");
-        Walk::on(auction, rule)
+        Walk::on(history.opened(), rule)
     }
 
     pub fn on(auction: Auction, rule: Rule) -> Walk {
@@ -116,7 +137,7 @@ impl Walk {
         let before = self.ties.bids;
         match call {
             Call::Arrive(edges) => {
-                self.auction.bidders.push(Bidder { edges: edges.clone(), gain: 0, item: 0 });
+                self.auction.bidders.push(Bidder::unplaced(edges.clone()));
                 self.chain(self.auction.bidders.len() - 1);
             }
             Call::Withdraw(items) => self.withdraw(items, Order::Number),
@@ -140,18 +161,17 @@ impl Walk {
         let taken = (self.rule)(&offers)?;
         self.ties.note(&offers, taken);
         self.bidders.push(bidder);
-        let Edge { item, weight } = taken.edge;
-        let displaced = self.auction.holder(item);
+        let displaced = self.auction.holder(taken.place);
         self.displace(displaced);
-        self.auction.bidders[bidder].item = item;
+        self.auction.bidders[bidder].held = Some(taken.place);
         self.auction.bidders[bidder].gain = taken.utility as u64;
-        self.auction.items[item as usize - 1].price += self.auction.slack.p * weight;
+        *self.auction.price_mut(taken.place) += self.auction.slack.p * taken.weight;
         displaced
     }
 
     pub fn displace(&mut self, holder: Option<usize>) {
         if let Some(holder) = holder {
-            self.auction.bidders[holder].item = 0;
+            self.auction.bidders[holder].held = None;
             self.auction.bidders[holder].gain = 0;
         }
     }

@@ -1,5 +1,5 @@
 //! The cases that document 01 prints, by calls and by texts, the example of R-1 in
-//! document 02, and cases of R-3 and R-4.
+//! document 02, and cases of R-3, R-4 and R-6.
 
 use noughtelm_tests::model::auction::*;
 use noughtelm_tests::model::check::{check, Claim, Totals};
@@ -26,7 +26,7 @@ fn refused<T>(answer: Result<T, Refusal>, number: u64, place: u64) {
 fn assert_state(auction: &Auction, matching: &[u64], weight: u64, sum: u64, greatest: u64) {
     assert_eq!(auction.matching(), matching);
     assert_eq!((auction.weight(), auction.sum()), (weight, sum));
-    assert_eq!(solve(&auction.live_weights(), auction.items.len()).weight, greatest);
+    assert_eq!(solve(&auction.live_weights(), &auction.counts()).weight, greatest);
 }
 
 fn case_1() -> Auction {
@@ -272,4 +272,59 @@ fn refusals_of_two_plans_in_order() {
     refused(compare(&auction, &[1, 2, 0], &[1, 1, 1, 1]), 9, 0);
     refused(compare(&auction, &[1, 2, 0], &[1, 2, 2]), 10, 3);
     refused(compare(&auction, &[1, 2, 0], &[1, 2, 4]), 10, 3);
+}
+
+/// Document 02, R-6: an item of two places at 1/10, and one of one. The first takes the first
+/// place; the second finds 900 at the other.
+fn double() -> Auction {
+    let slack = Slack { p: 1, q: 10 };
+    let mut auction = Auction::open_places(2, slack, &[2, 1]).unwrap();
+    assert_eq!(arrive(&mut auction, &[(1, 100), (2, 60)]), Ok(1));
+    assert_eq!(arrive(&mut auction, &[(1, 90)]), Ok(1));
+    auction
+}
+
+/// "Read-out gives a kettle's least price"; "The board's own sum, in line `T`, counts every
+/// place's price, so a check of read-out prices may total less than q + p times the worth,
+/// never more".
+#[test]
+fn a_double_kettle() {
+    let auction = double();
+    assert_state(&auction, &[1, 1], 190, 11 * 190, 190);
+    assert_eq!(auction.items[0].prices, [100, 90]);
+    assert_eq!((auction.prices(), auction.gains()), (vec![90, 0], vec![1_000, 900]));
+    let (matching, price, gain) = (auction.matching(), auction.prices(), auction.gains());
+    let mut claim = Claim { matching, price, gain, slack: auction.slack };
+    assert_eq!(check(&auction, &claim), Ok(Totals { weight: 190, sum: 2 * 90 + 1_900 }));
+    claim.price[0] += 1;
+    assert_eq!(check(&auction, &claim), Ok(Totals { weight: 190, sum: 2 * 91 + 1_900 }));
+    let text = b"K\t2\t1\t10\nP\t1\t2\nA\t1\t100\t2\t60\nA\t1\t90\n";
+    let printed = b"P\t1\t1\t1000\nP\t2\t1\t900\nY\t1\t90\nY\t2\t0\nT\t190\t2090\t2\nE\t190\n";
+    assert_eq!(sheet(text), printed);
+}
+
+/// "A plan may name a kettle once per place".
+#[test]
+fn plans_of_a_double_kettle() {
+    let mut auction = double();
+    assert_eq!(arrive(&mut auction, &[(1, 10)]), Ok(0));
+    let same = Ok(Comparison { difference: 0, order: Equal });
+    assert_eq!(compare(&auction, &[1, 1, 0], &[1, 1, 0]), same);
+    let more = Ok(Comparison { difference: 30, order: Less });
+    assert_eq!(compare(&auction, &[1, 1, 0], &[2, 1, 1]), more);
+    refused(compare(&auction, &[1, 1, 1], &[2, 1, 1]), 10, 3);
+    refused(compare(&auction, &[1, 1, 0], &[1, 1, 1]), 10, 3);
+}
+
+/// "9 for counts of another length, then 16": a count "at that kettle", the total "at place 0".
+#[test]
+fn counts_at_opening() {
+    let open = |counts: &[u64]| Auction::open_places(3, Slack { p: 1, q: 10 }, counts);
+    assert!(open(&[1, 8, 3]).is_ok());
+    refused(open(&[1, 8]), 9, 0);
+    refused(open(&[0, 9, 1, 1]), 9, 0);
+    refused(open(&[1, 9, 0]), 16, 2);
+    refused(open(&[1, 8, 0]), 16, 3);
+    refused(Auction::open_places(9, Slack { p: 1, q: 10 }, &[8; 9]), 16, 0);
+    assert!(Auction::open_places(8, Slack { p: 1, q: 10 }, &[8; 8]).is_ok());
 }

@@ -97,7 +97,7 @@ fn refusal_of(call: &Call, before: &[u64]) -> Option<Refusal> {
 }
 
 fn run(history: &History, seen: &mut Tally) -> Same<()> {
-    let mut both = Both::open(history.items, history.slack, seen)?.expect("it opens");
+    let mut both = Both::opened(history, seen)?;
     for call in &history.calls {
         let before = from_record(&both.model).expect("a sound board").matching();
         match call {

@@ -4,7 +4,7 @@
 
 use noughtelm_tests::both::compare::order_of;
 use noughtelm_tests::both::{Both, Same, Tally};
-use noughtelm_tests::gen::plan::{all, any_board, pairs, several, Plan};
+use noughtelm_tests::gen::plan::{all, any_board, pairs, several, Ground, Plan};
 use noughtelm_tests::gen::sheet::{edges, live, Sheet};
 use noughtelm_tests::laws::{require, Law};
 use noughtelm_tests::model::auction::*;
@@ -130,9 +130,11 @@ fn sorted_by_the_call() {
 
 // ---- all plans of small boards
 
-/// A board of these weights at slack 1/2, and without these items then.
-fn small_board(sheet: &Sheet, items: u64, gone: &[u64]) -> Record {
-    let mut auction = Auction::open(items, Slack { p: 1, q: 2 }).expect("it opens");
+/// A board of these weights at slack 1/2 on items with so many places, and without these
+/// items then.
+fn small_board(sheet: &Sheet, counts: &[u64], gone: &[u64]) -> Record {
+    let opened = Auction::open_places(counts.len() as u64, Slack { p: 1, q: 2 }, counts);
+    let mut auction = opened.expect("it opens");
     for row in sheet {
         auction.arrive(&edges(row)).expect("a row is a list of edges");
     }
@@ -153,7 +155,7 @@ fn sheets(bidders: usize, items: usize, weights: RangeInclusive<u64>) -> Vec<She
 
 /// All plans of a board, beside each other; how many there are.
 fn all_pairs(record: &Record, seen: &mut Tally) -> Same<usize> {
-    let plans = all(&live(record));
+    let plans = all(&Ground::of(record));
     let mut both = Both::on(record.clone(), seen);
     for (one, other) in pairs(&plans) {
         let answer = both.compare(one, other)?;
@@ -163,12 +165,18 @@ fn all_pairs(record: &Record, seen: &mut Tally) -> Same<usize> {
     Ok(plans.len())
 }
 
-/// All pairs of plans on each of these sheets; how many plans the largest has.
+/// All pairs of plans on each of these sheets, of items with one place; how many plans the
+/// largest has.
 fn all_plans(sheets: &[Sheet]) -> usize {
+    let items = sheets[0].first().map_or(1, |row| row.len() as u64);
+    all_plans_of(sheets, &ones(items))
+}
+
+/// The same of items with so many places.
+fn all_plans_of(sheets: &[Sheet], counts: &[u64]) -> usize {
     let (mut seen, mut most) = (Tally::default(), 0);
     for sheet in sheets {
-        let items = sheet.first().map_or(1, |row| row.len() as u64);
-        let found = all_pairs(&small_board(sheet, items, &[]), &mut seen);
+        let found = all_pairs(&small_board(sheet, counts, &[]), &mut seen);
         most = most.max(found.unwrap_or_else(|found| panic!("{found}\n{sheet:?}")));
     }
     println!("{} sheets: {seen:?}", sheets.len());
@@ -193,13 +201,36 @@ fn all_plans_of_3_by_3() {
     assert_eq!((some.len(), all_plans(&some)), (203, 34));
 }
 
+/// "A plan may name a kettle once per place" (document 02, R-6): three bidders at one item, and
+/// at two, with weights to 1 and some with weights to 2.
+#[test]
+fn all_plans_of_items_with_places() {
+    let (one, two) = (sheets(3, 1, 0..=2), sheets(3, 2, 0..=1));
+    let some: Vec<Sheet> = sheets(3, 2, 0..=2).into_iter().rev().step_by(7).collect();
+    // At one item: none, one, two or three bidders. At two: 27 lists of cells less those that
+    // name an item too often.
+    for (sheets, counts, most) in [
+        (&one, &[1][..], 4),
+        (&one, &[2], 7),
+        (&one, &[3], 8),
+        (&two, &[2, 1], 19),
+        (&two, &[1, 2], 19),
+        (&two, &[2, 2], 25),
+        (&two, &[3, 1], 20),
+        (&two, &[3, 3], 27),
+        (&some, &[2, 3], 26),
+    ] {
+        assert_eq!(all_plans_of(sheets, counts), most, "{counts:?}");
+    }
+}
+
 /// Every set of items withdrawn: the plans are those of the items that are left.
 #[test]
 fn all_plans_without_some_items() {
     let (mut seen, mut plans) = (Tally::default(), [0; 4]);
     for sheet in sheets(2, 2, 0..=2) {
         for (gone, plans) in [&[][..], &[1], &[2], &[1, 2]].iter().zip(&mut plans) {
-            let found = all_pairs(&small_board(&sheet, 2, gone), &mut seen);
+            let found = all_pairs(&small_board(&sheet, &[1, 1], gone), &mut seen);
             *plans += found.unwrap_or_else(|found| panic!("{found}\n{sheet:?} {gone:?}"));
         }
     }

@@ -12,7 +12,7 @@ use noughtelm_tests::ties::ties_of;
 use std::ops::Range;
 
 /// How many histories of each kind are tried.
-const HISTORIES: [(Kind, u64); 9] = [
+const HISTORIES: [(Kind, u64); 15] = [
     (Kind::Small, 9_000),
     (Kind::Sparse, 2_000),
     (Kind::Dense, 2_000),
@@ -22,6 +22,12 @@ const HISTORIES: [(Kind, u64); 9] = [
     (Kind::Refused, 1_500),
     (Kind::EqualUtility, 4_000),
     (Kind::Lists, 2_000),
+    (Kind::Places, 3_000),
+    (Kind::PlacesTies, 3_000),
+    (Kind::PlacesLimits, 200),
+    (Kind::PlacesRefused, 1_000),
+    (Kind::PlacesEqualUtility, 3_000),
+    (Kind::PlacesLists, 2_000),
 ];
 
 fn seeds(kind: Kind) -> Range<u64> {
@@ -58,7 +64,7 @@ fn carry_out(both: &mut Both, call: &Call, rng: &mut Rng, last: bool) -> Same<()
 }
 
 fn run(history: &History, rng: &mut Rng, seen: &mut Tally) -> Same<()> {
-    let mut both = Both::open(history.items, history.slack, seen)?.expect("it opens");
+    let mut both = Both::opened(history, seen)?;
     for (index, call) in history.calls.iter().enumerate() {
         let last = index + 1 == history.calls.len();
         carry_out(&mut both, call, rng, last)
@@ -84,7 +90,9 @@ fn run_kind(kind: Kind) -> Tally {
 
 fn note_limits(history: &History, seen: &mut Tally) {
     let Slack { p, q } = history.slack;
-    seen.count("items", history.items);
+    seen.count("items", history.items());
+    seen.count("places", history.counts.iter().sum());
+    history.counts.iter().for_each(|&count| seen.count("count", count));
     seen.count("p at q", 10_000 * p + q);
     for call in &history.calls {
         if let Call::Arrive(edges) = call {
@@ -156,6 +164,48 @@ fn histories_of_equal_utility() {
 #[test]
 fn histories_of_lists() {
     run_served(Kind::Lists);
+}
+
+// ---- items of several places (document 02, R-6)
+
+#[test]
+fn histories_of_places() {
+    let seen = run_served(Kind::Places);
+    assert!((1..=5).all(|count| seen.of("count", count) > 500));
+}
+
+/// Places of one item stand equal, and places of several.
+#[test]
+fn histories_of_places_full_of_ties() {
+    for kind in [Kind::PlacesTies, Kind::PlacesEqualUtility] {
+        run_served(kind);
+        let ties = ties_of(seeds(kind).map(|seed| history(&mut Rng::new(seed), kind)));
+        println!("{ties:?}");
+        assert!(ties.places > 8_000 && ties.both > 2_000 && ties.cheaper > 10_000);
+        assert!(ties.full > 4_000 && ties.lower > 400);
+    }
+}
+
+/// 64 places in all, as one number of items after another has them.
+#[test]
+fn histories_of_places_at_the_limits() {
+    let seen = run_served(Kind::PlacesLimits);
+    assert_eq!(seen.of("places", 64), 200);
+    assert!([8, 16, 32, 57].iter().all(|&items| seen.of("items", items) > 20));
+    assert!((1..=8).all(|count| seen.of("count", count) > 20));
+    assert!(seen.of("bidders", 128) > 40 && seen.of("weight", MAX_WEIGHT) > 100);
+}
+
+#[test]
+fn histories_of_places_with_refused_calls() {
+    let seen = run_kind(Kind::PlacesRefused);
+    seen.assert_seen("arrive", &[0, FULL, UNKNOWN, GONE, WORTH, ORDER], 300);
+    seen.assert_seen("withdraw", &[0, UNKNOWN, GONE, ORDER], 300);
+}
+
+#[test]
+fn histories_of_places_and_lists() {
+    run_served(Kind::PlacesLists);
 }
 
 #[test]

@@ -2,6 +2,7 @@
 //! check on claims made elsewhere, good and damaged, with its refusals in order.
 
 use noughtelm_tests::both::{rooms, wide, Both, Same, Tally};
+use noughtelm_tests::gen::places::{counts, full};
 use noughtelm_tests::gen::sheet::{self, Pattern};
 use noughtelm_tests::gen::{board, claim};
 use noughtelm_tests::model::auction::*;
@@ -17,10 +18,17 @@ fn try_exact(record: &Record, rng: &mut Rng, seen: &mut Tally) -> Same<u64> {
     let room = rooms(rng, record);
     both.exact(room)?.ok();
     let pair = both.exact(wide())?.expect("a sound board and room");
-    Ok(pair.price.iter().chain(&pair.gain).sum())
+    Ok(sum(record, &pair))
 }
 
-/// Sheets of one pattern; each is made and withdrawn from by its seed alone.
+/// All gains, and each price once per place, added.
+fn sum(r: &Record, c: &Claim) -> u64 {
+    let prices = c.price.iter().zip(&r.counts).map(|(price, &count)| price * count as u64);
+    prices.chain(c.gain.iter().copied()).sum()
+}
+
+/// Sheets of one pattern; each is made and withdrawn from by its seed alone. In one of two
+/// some items have several places.
 fn try_sheets(
     pattern: Pattern,
     seeds: std::ops::Range<u64>,
@@ -34,7 +42,9 @@ fn try_sheets(
         let density = rng.range(1, 8);
         let sheet = sheet::sheet(rng, pattern, bidders, items, density);
         let withdrawals = rng.pick(&[0, 0, 1, 3]);
-        let record = sheet::board(rng, sheet, items, withdrawals);
+        let counts = if seed % 2 == 0 { ones(items) } else { counts(rng, items, 5) };
+        let record = sheet::board_of(rng, sheet, &counts, withdrawals);
+        seen.count("places", (record.places > record.items) as u64);
         match try_exact(&record, rng, seen) {
             Ok(weight) => weighty += (weight > 0) as u64,
             Err(found) => panic!("seed {seed}, {pattern:?}: {found}\n{record:?}"),
@@ -54,6 +64,7 @@ fn try_patterns(seeds: std::ops::Range<u64>, most: (u64, u64)) {
     println!("{seen:?}");
     seen.assert_seen("exact", &[0, SHORT], 10);
     seen.assert_seen("check", &[0], 100);
+    seen.assert_seen("places", &[0, 1], 10 * (seeds.end - seeds.start) / 4);
 }
 
 #[test]
@@ -66,15 +77,16 @@ fn sheets_of_any_size() {
     try_patterns(5_000..5_060, (128, 64));
 }
 
-/// Every bidder with every edge, 64 items and 128 bidders.
+/// Every bidder with every edge, 64 places and 128 bidders.
 #[test]
 fn full_sheets() {
     let mut seen = Tally::default();
     for (index, pattern) in Pattern::ALL.into_iter().enumerate() {
-        for seed in (0..6).map(|n| 60_000 + 100 * index as u64 + n) {
+        for seed in (0..12).map(|n| 60_000 + 100 * index as u64 + n) {
             let rng = &mut Rng::new(seed);
-            let sheet = sheet::sheet(rng, pattern, 128, 64, 8);
-            let record = sheet::board(rng, sheet, 64, 0);
+            let counts = if seed % 2 == 0 { ones(64) } else { full(rng) };
+            let sheet = sheet::sheet(rng, pattern, 128, counts.len() as u64, 8);
+            let record = sheet::board_of(rng, sheet, &counts, 0);
             let weight = try_exact(&record, rng, &mut seen);
             let told = |found| panic!("seed {seed}, {pattern:?}: {found}\n{record:?}");
             assert!(weight.unwrap_or_else(told) > 0);
@@ -93,10 +105,11 @@ fn tiny_sheets() {
         let pattern = rng.pick(&Pattern::ALL);
         let sheet = sheet::sheet(rng, pattern, bidders, items, 6);
         let withdrawals = rng.below(2);
-        let record = sheet::board(rng, sheet, items, withdrawals);
+        let counts = if seed % 2 == 0 { ones(items) } else { counts(rng, items, 3) };
+        let record = sheet::board_of(rng, sheet, &counts, withdrawals);
         let live = from_record(&record).unwrap().live_weights();
-        let best = brute_force(&live, items as usize);
-        assert_eq!(solve(&live, items as usize).weight, best, "seed {seed}");
+        let best = brute_force(&live, &record.counts());
+        assert_eq!(solve(&live, &record.counts()).weight, best, "seed {seed}");
         let weight = try_exact(&record, rng, &mut seen);
         assert_eq!(weight, Ok(best), "seed {seed}\n{record:?}");
         weighty += (best > 0) as u64;
@@ -112,7 +125,9 @@ fn any_board(rng: &mut Rng) -> Record {
     }
     let (bidders, items) = (rng.range(1, 12), rng.range(1, 9));
     let sheet = sheet::sheet(rng, Pattern::UpTo(500), bidders, items, 5);
-    sheet::board(rng, sheet, items, 2)
+    let most = rng.pick(&[1, 3]);
+    let counts = counts(rng, items, most);
+    sheet::board_of(rng, sheet, &counts, 2)
 }
 
 #[test]
@@ -133,8 +148,8 @@ fn damaged_claims() {
 
 fn totals(r: &Record, c: &Claim) -> Totals {
     let placed = c.matching.iter().enumerate().filter(|(_, &cell)| cell != 0);
-    let weight = placed.map(|(b, &cell)| r.rows[b][cell as usize - 1] as u64).sum();
-    Totals { weight, sum: c.price.iter().chain(&c.gain).sum() }
+    let weight = placed.map(|(b, &cell)| r.weight_at(b, cell as usize - 1)).sum();
+    Totals { weight, sum: sum(r, c) }
 }
 
 /// Claims made without the auction's lists are accepted with their own totals.

@@ -1,9 +1,9 @@
 //! The proved calls, from the static library, on the first cases of document 01
-//! and on the example of R-1 in document 02, and cases of.
+//! and on the example of R-1 in document 02, and cases of.
 
 use noughtelm_tests::both::compare::order_of;
 use noughtelm_tests::ffi::{
-    self, Answer, Auction, Comparison, Edge, EdgeBuffer, Scaled, Told, Totals, MAX_OUTPUT,
+    self, Answer, Board, Comparison, Edge, EdgeBuffer, Scaled, Told, Totals, MAX_OUTPUT,
 };
 
 const TEXT: &[u8] = b"K\t2\t1\t10\nA\t1\t100\t2\t60\nA\t1\t90\n";
@@ -34,7 +34,8 @@ fn case_1() -> Answer {
 fn case_1_by_calls() {
     let board = case_1().board;
     assert!(ffi::is_sound(board));
-    assert_eq!((board.items, board.arrived, board.slack.p, board.slack.q), (2, 2, 1, 10));
+    assert_eq!((board.items.count, &board.items.places[..3]), (2, &[1, 1, 0][..]));
+    assert_eq!((board.places, board.arrived, board.slack.p, board.slack.q), (2, 2, 1, 10));
     let (mut plan, mut prices, mut gains) = ([9; 3], [9; 3], [9; 3]);
     let told = ffi::read_out(board, &mut plan, &mut prices, &mut gains);
     assert_eq!((told, plan, prices, gains), (served(0), [2, 1, 9], [570, 60, 9], [600, 420, 9]));
@@ -127,7 +128,7 @@ fn lists_of_items() {
 }
 
 /// One more bidder, who makes so many bids.
-fn arrived(board: Auction, edges: &[(u64, u64)], bids: u64) -> Auction {
+fn arrived(board: Board, edges: &[(u64, u64)], bids: u64) -> Board {
     let edges: Vec<Edge> = edges.iter().map(|&(item, weight)| Edge { item, weight }).collect();
     let after = ffi::arrive(board, &edges);
     assert_eq!(after.told(), served(bids), "{edges:?}");
@@ -135,7 +136,7 @@ fn arrived(board: Auction, edges: &[(u64, u64)], bids: u64) -> Auction {
 }
 
 fn assert_lists<const B: usize, const I: usize>(
-    board: Auction,
+    board: Board,
     plan: [u64; B],
     prices: [u64; I],
     gains: [u64; B],
@@ -200,7 +201,7 @@ fn exact_and_check() {
 }
 
 /// These plans, of these weights, stand in order: every pair of them.
-fn assert_order(board: Auction, plans: &[([u64; 2], i64)]) {
+fn assert_order(board: Board, plans: &[([u64; 2], i64)]) {
     for (i, (first, one)) in plans.iter().enumerate() {
         for (j, (second, other)) in plans.iter().enumerate() {
             let (difference, order) = (one - other, order_of(i.cmp(&j)));
@@ -291,4 +292,68 @@ fn a_flag_is_0_or_1() {
         assert_eq!(ffi::compare(spoilt, &[2, 0], &[0, 0]), comparison);
         assert_eq!((plan, prices, gains), ([7; 2], [8; 2], [9; 2]));
     }
+}
+
+/// Document 02, R-6: 1, 2, 9, then 16 at the first count that is not 1 to 8, then at 0; the
+/// board is all zeros, and the counts are kept.
+#[test]
+fn counts_at_opening() {
+    let zeros = ffi::open(0, 1, 10).board;
+    let cases: [(u64, u64, &[u64], u64, u64); 8] = [
+        (0, 10, &[9; 9], 1, 0),
+        (9, 1, &[9; 8], 2, 0),
+        (9, 10, &[9; 8], 9, 0),
+        (2, 10, &[], 9, 0),
+        (3, 10, &[1, 9, 0], 16, 2),
+        (3, 10, &[1, 8, 0], 16, 3),
+        (3, 10, &[1 << 32, 8, 0], 16, 1),
+        (9, 10, &[8; 9], 16, 0),
+    ];
+    for (items, q, counts, number, place) in cases {
+        let (lent, answer) = (counts.to_vec(), ffi::open_places(items, 1, q, counts));
+        assert_eq!((answer.told(), answer.board), (refused(number, place), zeros), "{counts:?}");
+        assert_eq!(counts, lent);
+    }
+    let opened = ffi::open_places(8, 1, 10, &[8; 8]);
+    assert_eq!((opened.told(), opened.board.places), (served(0), 64));
+    assert_eq!((opened.board.items.count, opened.board.items.places[7]), (8, 8));
+    assert!(ffi::is_sound(opened.board));
+}
+
+/// Document 02, R-6: an item of two places, which are taken one after the other. A bidder of
+/// weight 95 finds 950 - 90 at the second.
+#[test]
+fn a_double_kettle() {
+    let board = arrived(ffi::open_places(2, 1, 10, &[2, 1]).board, &[(1, 100), (2, 60)], 1);
+    let board = arrived(board, &[(1, 90)], 1);
+    assert_eq!((board.price[0], board.price[1]), (Scaled(100), Scaled(90)));
+    assert_lists(board, [1, 1], [90, 0], [1_000, 900]);
+    let totals = Totals { number: 0, place: 0, weight: 190, total: 2 * 90 + 1_900 };
+    assert_eq!(ffi::check(board, &[1, 1], &[90, 0], &[1_000, 900], 1, 10), totals);
+    let clash = Totals { number: 10, place: 3, weight: 0, total: 0 };
+    let third = ffi::arrive(board, &[Edge { item: 1, weight: 10 }]);
+    assert_eq!(third.told(), served(0));
+    assert_eq!(ffi::check(third.board, &[1, 1, 1], &[90, 0], &[1_000, 900, 0], 1, 10), clash);
+    let (mut plan, mut prices, mut gains) = ([0; 3], [0; 2], [0; 3]);
+    assert_eq!(ffi::exact(third.board, &mut plan, &mut prices, &mut gains), served(190));
+    assert_eq!(plan, [1, 1, 0]);
+    let totals = Totals { number: 0, place: 0, weight: 190, total: 190 };
+    assert_eq!(ffi::check(third.board, &plan, &prices, &gains, 0, 1), totals);
+    let gone = ffi::withdraw(third.board, &[1]);
+    assert_eq!((gone.told(), ffi::is_sound(gone.board)), (served(1), true));
+    assert_eq!(gone.board.withdrawn[..4], [1, 1, 0, 0]);
+    assert_lists(gone.board, [2, 0, 0], [0, 60], [600, 0, 0]);
+}
+
+/// `P` lines open the board that the call does.
+#[test]
+fn a_text_with_places() {
+    let text = b"K\t2\t1\t10\nP\t1\t2\nA\t1\t100\t2\t60\nA\t1\t90\n";
+    let board = arrived(ffi::open_places(2, 1, 10, &[2, 1]).board, &[(1, 100), (2, 60)], 1);
+    let replayed = ffi::replay(text);
+    assert_eq!(replayed.told(), served(2));
+    assert_eq!(replayed.board, arrived(board, &[(1, 90)], 1));
+    try_sheet(text, b"P\t1\t1\t1000\nP\t2\t1\t900\nY\t1\t90\nY\t2\t0\nT\t190\t2090\t2\nE\t190\n");
+    try_sheet(b"K\t2\t1\t10\nP\t1\t9\n", b"R\t16\t2\n");
+    try_sheet(b"K\t64\t1\t10\nP\t1\t2\n", b"R\t16\t1\n");
 }

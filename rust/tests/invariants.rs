@@ -6,21 +6,21 @@ use noughtelm_tests::both::Tally;
 use noughtelm_tests::ffi;
 use noughtelm_tests::gen::history::{history, Call, History, Kind};
 use noughtelm_tests::gen::sheet::{edges, sheet, Pattern};
-use noughtelm_tests::laws::{bids_are_bounded, on_board, require, Law};
-use noughtelm_tests::model::auction::{Edge, Slack, MAX_ITEMS};
+use noughtelm_tests::laws::{bids_are_bounded, on_board, places_at, require, Law};
+use noughtelm_tests::model::auction::{Edge, Slack, MAX_PLACES};
 use noughtelm_tests::rng::Rng;
 use noughtelm_tests::ties::ties_of;
 use std::ops::Range;
 
-fn laws(b: &ffi::Auction, accepted: u64, bids: u64) -> Law {
+fn laws(b: &ffi::Board, accepted: u64, bids: u64) -> Law {
     require(ffi::is_sound(*b), || "not sound".into())?;
     bids_are_bounded(b, accepted, bids)?;
     on_board(b)
 }
 
 /// The call has left its edges or its flags on the board, or nothing at all.
-fn is_entered(before: &ffi::Auction, after: &ffi::Answer, call: &Call) -> Law {
-    let mut expected = ffi::Auction {
+fn is_entered(before: &ffi::Board, after: &ffi::Answer, call: &Call) -> Law {
+    let mut expected = ffi::Board {
         price: after.board.price,
         holder: after.board.holder,
         gain: after.board.gain,
@@ -29,14 +29,17 @@ fn is_entered(before: &ffi::Auction, after: &ffi::Answer, call: &Call) -> Law {
     match call {
         _ if after.number != 0 => expected = *before,
         Call::Arrive(edges) => {
-            let first = MAX_ITEMS * before.arrived as usize;
+            let row = MAX_PLACES * before.arrived as usize;
             for edge in edges {
-                expected.weights[first + edge.item as usize - 1] = edge.weight as u32;
+                for place in before.places_of(edge.item as usize - 1) {
+                    expected.weights[row + place] = edge.weight as u32;
+                }
             }
             expected.arrived += 1;
         }
         Call::Withdraw(items) => {
-            items.iter().for_each(|&item| expected.withdrawn[item as usize - 1] = 1)
+            let places = items.iter().flat_map(|&item| before.places_of(item as usize - 1));
+            places.for_each(|place| expected.withdrawn[place] = 1)
         }
     }
     require(expected == after.board, || "not the board that the call leaves".into())
@@ -49,19 +52,19 @@ fn lent(edge: &Edge) -> ffi::Edge {
 /// Every board of a history; the bids made, and how many were allowed.
 fn run(history: &History, seen: &mut Tally) -> Result<(u64, u64), String> {
     let Slack { p, q } = history.slack;
-    let mut board = ffi::open(history.items, p, q).board;
+    let mut board = ffi::open_places(history.items(), p, q, &history.counts).board;
     let (mut accepted, mut bids) = (0, 0);
     for (index, call) in history.calls.iter().enumerate() {
-        let (name, length, after) = match call {
+        let (name, edges, after) = match call {
             Call::Arrive(edges) => {
                 let list: Vec<ffi::Edge> = edges.iter().map(lent).collect();
-                ("arrive", list.len() as u64, ffi::arrive(board, &list))
+                ("arrive", &edges[..], ffi::arrive(board, &list))
             }
-            Call::Withdraw(items) => ("withdraw", 0, ffi::withdraw(board, items)),
+            Call::Withdraw(items) => ("withdraw", &[][..], ffi::withdraw(board, items)),
         };
         seen.count(name, after.number);
         if after.number == 0 {
-            accepted += length;
+            accepted += places_at(&board, edges.iter().map(|edge| edge.item));
             bids += after.value;
         }
         is_entered(&board, &after, call)
@@ -145,24 +148,64 @@ fn histories_of_lists() {
     run_all(Kind::Lists, 1_000);
 }
 
-/// Many bidders for few items at a small slack: the bids that the bound is for.
+/// "the bid bound counts an entry once per place" (document 02, R-6); the board's own sum
+/// counts every place's price, and "a check of read-out prices may total less than q + p
+/// times the worth, never more".
 #[test]
-fn contested_items() {
+fn histories_of_places() {
+    for (kind, count) in [
+        (Kind::Places, 1_500),
+        (Kind::PlacesTies, 1_500),
+        (Kind::PlacesEqualUtility, 1_500),
+        (Kind::PlacesLists, 1_000),
+    ] {
+        run_all(kind, count);
+    }
+}
+
+#[test]
+fn histories_of_places_at_the_limits() {
+    run_all(Kind::PlacesLimits, 60);
+}
+
+#[test]
+fn histories_of_places_with_refused_calls() {
+    let seen = run_all(Kind::PlacesRefused, 400);
+    seen.assert_seen("arrive", &[0, 3, 4, 5, 6, 7], 50);
+    seen.assert_seen("withdraw", &[0, 4, 5, 7], 50);
+}
+
+/// Many bidders for few items, of so many places each, at a small slack: the bids that
+/// the bound is for. The nearest that they come to it, of 100.
+fn contested(count: u64, seeds: Range<u64>) -> u64 {
     let (mut seen, mut nearest) = (Tally::default(), 0);
-    for seed in 290_000..290_120 {
+    for seed in seeds {
         let rng = &mut Rng::new(seed);
         let items = rng.range(1, 3);
-        let bidders = rng.range(2, 12);
+        let bidders = rng.range(count + 1, count + 11);
         let rows = sheet(rng, Pattern::Close, bidders, items, 8);
         let calls = rows.iter().map(|row| Call::Arrive(edges(row))).collect();
         let slack = Slack { p: 1, q: rng.pick(&[10, 100, 1_000]) };
-        let history = History { items, slack, calls };
+        let history = History { counts: vec![count; items as usize], slack, calls };
         match run(&history, &mut seen) {
             Ok((bids, most)) => nearest = nearest.max(100 * bids / most),
             Err(found) => panic!("seed {seed}: {found}\n{history:?}"),
         }
     }
     println!("up to {nearest} of 100 bids that are allowed");
-    assert!(nearest >= 50);
     seen.assert_seen("arrive", &[0], 500);
+    nearest
+}
+
+#[test]
+fn contested_items() {
+    assert!(contested(1, 290_000..290_120) >= 50);
+}
+
+/// A place's price rises to the weights once, and the bound counts that for each bidder at
+/// the item: so it is a third at best where two places have three bidders.
+#[test]
+fn contested_places() {
+    assert!(contested(2, 291_000..291_120) >= 30);
+    assert!(contested(3, 292_000..292_120) >= 20);
 }

@@ -178,10 +178,10 @@ fn texts_are_their_calls() {
     }
 }
 
-fn by_calls(history: &History) -> (ffi::Auction, u64) {
+fn by_calls(history: &History) -> (ffi::Board, u64) {
     let Slack { p, q } = history.slack;
     let lent = |edge: &Edge| ffi::Edge { item: edge.item, weight: edge.weight };
-    let start = (ffi::open(history.items, p, q).board, 0);
+    let start = (ffi::open_places(history.items(), p, q, &history.counts).board, 0);
     history.calls.iter().fold(start, |(board, bids), call| {
         let after = match call {
             Call::Arrive(edges) => ffi::arrive(board, &edges.iter().map(lent).collect::<Vec<_>>()),

@@ -28,9 +28,10 @@ fn full_width<'a>(rng: &mut Rng, gone: &[u64], seen: &'a mut Tally) -> Same<Watc
 
 /// A board that a history reaches, or one that none need reach.
 fn any_board(rng: &mut Rng) -> Record {
-    match rng.below(3) {
-        0 => board::sound(rng),
-        1 => to_record(&history(rng, Kind::Lists).auction()),
+    match rng.below(5) {
+        0 | 1 => board::sound(rng),
+        2 => to_record(&history(rng, Kind::Lists).auction()),
+        3 => to_record(&history(rng, Kind::PlacesLists).auction()),
         _ => to_record(&history(rng, Kind::Withdrawals).auction()),
     }
 }
@@ -97,11 +98,12 @@ fn items_that_nobody_holds_and_all_items() {
         let record = any_board(&mut Rng::new(seed));
         let mut both = Both::on(record.clone(), &mut seen);
         let mut left = record.clone();
-        let unheld = |item: &u64| record.holder[*item as usize - 1] == 0;
+        let places = |item: u64| record.places_of(item as usize - 1);
+        let unheld = |item: &u64| record.holder[places(*item)].iter().all(|&holder| holder == 0);
         let (list, held): (Vec<u64>, Vec<u64>) =
             items_of(&record, false).into_iter().partition(unheld);
         assert_eq!(both.withdraw(&list), Ok(Ok(0)), "seed {seed}\n{record:?}");
-        list.iter().for_each(|&item| left.withdrawn[item as usize - 1] = 1);
+        list.iter().for_each(|&item| left.withdrawn[places(item)].fill(1));
         assert!(both.model == left, "seed {seed}\n{record:?}");
         assert_eq!(both.withdraw(&held), Ok(Ok(0)), "seed {seed}\n{record:?}");
         assert_eq!((both.model.price, both.model.gain), ([0; 64], [0; 128]), "seed {seed}");

@@ -10,6 +10,7 @@ use noughtelm_tests::model::sound::{from_record, to_record};
 use noughtelm_tests::orders::Order;
 use noughtelm_tests::rng::Rng;
 use noughtelm_tests::ties::{by_pairs, Walk};
+use std::ops::Range;
 
 /// The withdrawal in this order, bid by bid.
 fn walked(auction: &Auction, items: &[u64], order: Order) -> Walk {
@@ -22,7 +23,8 @@ fn walked(auction: &Auction, items: &[u64], order: Order) -> Walk {
 
 /// A board, the items that leave it, and what it comes to.
 struct Case {
-    items: u64,
+    /// How many places the items have.
+    counts: &'static [u64],
     q: u64,
     arrivals: &'static [&'static [(u64, u64)]],
     list: &'static [u64],
@@ -36,7 +38,9 @@ struct Case {
 
 impl Case {
     fn board<'a>(&self, seen: &'a mut Tally) -> Same<Watched<'a>> {
-        let mut board = Watched::open(self.items, Slack { p: 1, q: self.q }, seen)?;
+        let slack = Slack { p: 1, q: self.q };
+        let history = History { counts: self.counts.to_vec(), slack, calls: Vec::new() };
+        let mut board = Watched::opened(&history, seen)?;
         for list in self.arrivals {
             let edge = |&(item, weight): &(u64, u64)| Edge { item, weight };
             let edges: Vec<Edge> = list.iter().map(edge).collect();
@@ -52,7 +56,7 @@ impl Case {
         let before = from_record(&board.both.model).expect("a sound board");
         assert_eq!(board.withdraw(self.list), Ok(Ok(self.bidders.len() as u64)));
         let [m, y, g] = board.both.read_out(wide()).expect("both agree").expect("room");
-        let (bidders, items) = (self.arrivals.len(), self.items as usize);
+        let (bidders, items) = (self.arrivals.len(), self.counts.len());
         let lists = (&m[..bidders], &y[..items], &g[..bidders]);
         assert_eq!(lists, (self.matching, self.prices, self.gains));
         let right = walked(&before, self.list, Order::Number);
@@ -71,7 +75,7 @@ impl Case {
 #[test]
 fn number_order_is_not_the_order_of_items() {
     Case {
-        items: 3,
+        counts: &[1, 1, 1],
         q: 2,
         arrivals: &[&[(2, 100), (3, 50)], &[(1, 100), (3, 50)]],
         list: &[1, 2],
@@ -79,7 +83,7 @@ fn number_order_is_not_the_order_of_items() {
         matching: &[3, 0],
         prices: &[0, 0, 50],
         gains: &[100, 0],
-        apart: &[Order::Item, Order::Falling, Order::OneByOne],
+        apart: &[Order::Item, Order::Falling, Order::OneByOne, Order::PlaceByPlace],
     }
     .assert();
 }
@@ -88,7 +92,7 @@ fn number_order_is_not_the_order_of_items() {
 #[test]
 fn all_go_first() {
     Case {
-        items: 3,
+        counts: &[1, 1, 1],
         q: 4,
         arrivals: &[&[(1, 100), (2, 100), (3, 50)], &[(2, 100), (3, 60)]],
         list: &[1, 2],
@@ -96,7 +100,7 @@ fn all_go_first() {
         matching: &[0, 3],
         prices: &[0, 0, 220],
         gains: &[0, 80],
-        apart: &[Order::Falling, Order::OneByOne],
+        apart: &[Order::Falling, Order::OneByOne, Order::PlaceByPlace],
     }
     .assert();
 }
@@ -105,7 +109,7 @@ fn all_go_first() {
 #[test]
 fn each_chain_is_run_to_its_end() {
     Case {
-        items: 4,
+        counts: &[1; 4],
         q: 2,
         arrivals: &[&[(1, 200), (3, 100)], &[(2, 200), (4, 30)], &[(3, 40), (4, 30)]],
         list: &[1, 2],
@@ -122,7 +126,7 @@ fn each_chain_is_run_to_its_end() {
 #[test]
 fn chains_displace_each_others_bidders() {
     Case {
-        items: 5,
+        counts: &[1; 5],
         q: 2,
         arrivals: &[
             &[(2, 100), (3, 50), (4, 40)],
@@ -134,7 +138,44 @@ fn chains_displace_each_others_bidders() {
         matching: &[4, 3, 5],
         prices: &[0, 0, 160, 48, 5],
         gains: &[72, 140, 10],
-        apart: &[Order::Item, Order::Falling, Order::OneByOne],
+        apart: &[Order::Item, Order::Falling, Order::OneByOne, Order::PlaceByPlace],
+    }
+    .assert();
+}
+
+/// "A withdrawal removes all places, with displaced batches in R-3's order" (document 02,
+/// Bidder 3 has the first place of item 1 and bidder 2 the second: bidder 2 is at
+/// item 2 first.
+#[test]
+fn number_order_is_not_the_order_of_places() {
+    Case {
+        counts: &[2, 1],
+        q: 2,
+        arrivals: &[&[(1, 20)], &[(1, 60), (2, 20)], &[(1, 100), (2, 20)]],
+        list: &[1],
+        bidders: &[2],
+        matching: &[0, 2, 0],
+        prices: &[0, 20],
+        gains: &[0, 40, 0],
+        apart: &[Order::Item, Order::Falling],
+    }
+    .assert();
+}
+
+/// Bidders 1 and 2 have both places of item 1. If the first left by itself, bidder 1 would
+/// take the second from bidder 2, who would be at item 2 first.
+#[test]
+fn all_places_go_first() {
+    Case {
+        counts: &[2, 1],
+        q: 4,
+        arrivals: &[&[(1, 100), (2, 50)], &[(1, 80), (2, 60)]],
+        list: &[1],
+        bidders: &[1, 2, 1, 2],
+        matching: &[0, 2],
+        prices: &[0, 220],
+        gains: &[0, 80],
+        apart: &[Order::Falling, Order::PlaceByPlace],
     }
     .assert();
 }
@@ -152,12 +193,12 @@ struct Met {
     /// A bidder that held one of them bid, and again within a later chain.
     again: u64,
     /// How many come to another board in each of the other orders.
-    apart: [u64; 4],
+    apart: [u64; 5],
 }
 
 impl Met {
     fn note(&mut self, before: &Auction, items: &[u64], right: &Walk) {
-        let first: Vec<usize> = items.iter().filter_map(|&item| before.holder(item)).collect();
+        let first: Vec<usize> = items.iter().flat_map(|&item| before.holders(item)).collect();
         let bids = |bidder: usize| right.bidders.iter().filter(|&&b| b == bidder).count();
         self.withdrawals += 1;
         self.several += (first.len() > 1) as u64;
@@ -171,7 +212,7 @@ impl Met {
 
 /// A history on both sides, its withdrawals bid by bid too.
 fn run(history: &History, seen: &mut Tally, met: &mut Met) -> Same<()> {
-    let mut board = Watched::open(history.items, history.slack, seen)?;
+    let mut board = Watched::opened(history, seen)?;
     for call in &history.calls {
         let before = from_record(&board.both.model).expect("a sound board");
         let bids = board.call(call)?.expect("a good call");
@@ -179,7 +220,8 @@ fn run(history: &History, seen: &mut Tally, met: &mut Met) -> Same<()> {
             let right = walked(&before, items, Order::Number);
             assert_eq!(right.ties.bids, bids, "{items:?}\n{before:?}");
             assert_eq!(to_record(&right.auction), board.both.model, "{items:?}\n{before:?}");
-            if items.len() > 1 {
+            let several = history.counts.iter().any(|&count| count > 1);
+            if several || items.len() > 1 {
                 met.note(&before, items, &right);
             }
         }
@@ -187,17 +229,30 @@ fn run(history: &History, seen: &mut Tally, met: &mut Met) -> Same<()> {
     Ok(())
 }
 
-#[test]
-fn random_histories_tell_the_orders_apart() {
+fn run_all(kind: Kind, seeds: Range<u64>) -> Met {
     let (mut seen, mut met) = (Tally::default(), Met::default());
-    for seed in 570_000..570_800 {
-        let history = history(&mut Rng::new(seed), Kind::Lists);
+    for seed in seeds {
+        let history = history(&mut Rng::new(seed), kind);
         if let Err(found) = run(&history, &mut seen, &mut met) {
             panic!("seed {seed}: {found}\n{history:?}");
         }
     }
     println!("{met:?}");
+    met
+}
+
+#[test]
+fn random_histories_tell_the_orders_apart() {
+    let met = run_all(Kind::Lists, 570_000..570_800);
     assert!(met.withdrawals > 1_000 && met.several > 700);
     assert!(met.inside > 250 && met.again > 150);
     assert!(met.apart.iter().all(|&boards| boards > 100));
+}
+
+#[test]
+fn random_histories_of_places_tell_the_orders_apart() {
+    let met = run_all(Kind::PlacesLists, 571_000..572_200);
+    assert!(met.withdrawals > 2_500 && met.several > 1_200);
+    assert!(met.inside > 250 && met.again > 150);
+    assert!(met.apart.iter().all(|&boards| boards > 80));
 }

@@ -6,7 +6,7 @@ use noughtelm_tests::both::{equal, shown, wide, Both, Same, Tally};
 use noughtelm_tests::ffi::MAX_PAGE;
 use noughtelm_tests::gen::board;
 use noughtelm_tests::gen::history::{history, Call, History, Kind};
-use noughtelm_tests::gen::text::{dense, mutate, random, served_of_length, write};
+use noughtelm_tests::gen::text::{dense, dense_places, mutate, random, served_of_length, write};
 use noughtelm_tests::model::refusal::*;
 use noughtelm_tests::model::sound::{to_record, Record};
 use noughtelm_tests::model::text::{page_of, replay, sheet};
@@ -97,11 +97,11 @@ fn read_back(both: &mut Both, page: &[u8]) -> Same<()> {
     let [matching, _, own_gains] = both.read_out(wide())?.expect("a sound board and room");
     equal("the plan read back", &plan[..], &matching[..count])?;
     equal("the gains read back", &gains[..], &own_gains[..count])?;
-    let held = |(row, item): (&[u32; 64], &u64)| match item {
+    let held = |(bidder, item): (usize, &u64)| match item {
         0 => 0,
-        item => row[*item as usize - 1] as u64,
+        item => both.model.weight_at(bidder, *item as usize - 1),
     };
-    let held: Vec<u64> = both.model.rows.iter().zip(&matching[..count]).map(held).collect();
+    let held: Vec<u64> = matching[..count].iter().enumerate().map(held).collect();
     equal("the worths read back", weights, held)
 }
 
@@ -117,7 +117,7 @@ fn up_to(mut history: History, bidders: usize) -> History {
 
 /// Boards of so many bidders, by histories of all kinds that bring as many.
 fn boards(bidders: usize, from: u64) -> impl Iterator<Item = Record> {
-    let served = Kind::ALL.into_iter().filter(|kind| *kind != Kind::Refused);
+    let served = Kind::ALL.into_iter().filter(|kind| kind.is_served());
     let kinds = served.collect::<Vec<Kind>>().into_iter().cycle();
     let histories = kinds.zip(from..).map(move |(kind, seed)| {
         let history = history(&mut Rng::new(seed), kind);
@@ -213,7 +213,7 @@ fn assert_text(seed: u64, text: &[u8], seen: &mut Tally) {
 fn pages_of_texts() {
     let mut seen = Tally::default();
     for kind in Kind::ALL {
-        let count = if kind == Kind::Limits { 20 } else { 150 };
+        let count = if kind.is_large() { 20 } else { 150 };
         for seed in (0..count).map(|n| 440_000 + 1_000 * kind as u64 + n) {
             assert_text(seed, &write(&history(&mut Rng::new(seed), kind)), &mut seen);
         }
@@ -240,7 +240,7 @@ fn pages_of_damaged_texts() {
         assert_text(seed, &text, &mut seen);
     }
     println!("{seen:?}");
-    seen.assert_seen("text", &[0, 1, 2, 4, 5, 6, 7, 14, 15], 2);
+    seen.assert_seen("text", &[0, 1, 2, 4, 5, 6, 7, 14, 15, 16], 2);
 }
 
 /// "An empty board gives the heading alone", also where its items are gone; the text
@@ -254,7 +254,7 @@ fn pages_of_the_least_and_the_greatest_texts() {
         assert_text(0, text, &mut seen);
     }
     let empty = format!("K\t1\t1\t2\n{}", "A\n".repeat(128));
-    for text in [empty.into_bytes(), dense(), served_of_length(65_536)] {
+    for text in [empty.into_bytes(), dense(), dense_places(), served_of_length(65_536)] {
         assert_eq!(page_of(&text).len(), MAX_PAGE);
         assert_text(0, &text, &mut seen);
     }

@@ -50,7 +50,7 @@ fn after_2(text: &str) -> Vec<u8> {
 
 #[test]
 fn each_refusal_in_words() {
-    let cases: [(Vec<u8>, &str, &str); 15] = [
+    let cases: [(Vec<u8>, &str, &str); 24] = [
         (b"K\t65\t1\t10\n".into(), "R\t1\t1\n", "line 1: 1 count, kettles to open not 1 to 64\n  the K line has 65 kettles\n"),
         (b"K\t2\t10\t10\n".into(), "R\t2\t1\n", "line 1: 2 slack, p or q outside its range\n  the slack is 10/10: p is from 1 and below q, and q is at most 1,000\n"),
         (after_2(&"A\n".repeat(129)), "R\t3\t130\n", "line 130: 3 full, 128 batches have arrived\n"),
@@ -64,6 +64,15 @@ fn each_refusal_in_words() {
         (after_2("W\t1\t2\nA\t2\t5\n"), "R\t5\t3\n", "line 3: 5 gone, kettle withdrawn\n  entry 1 names kettle 2, which line 2 withdraws\n"),
         (after_2("W\t1\nW\t2\t1\n"), "R\t5\t3\n", "line 3: 5 gone, kettle withdrawn\n  number 2 of the line is kettle 1, which line 2 withdraws\n"),
         (after_2("W\t1\t1\n"), "R\t7\t2\n", "line 2: 7 order, kettle not above the entry before\n  number 2 of the line is kettle 1 after kettle 1\n"),
+        (after_2("P\t3\t9\n"), "R\t4\t2\n", "line 2: 4 unknown, kettle not 1 to k\n  the line names kettle 3; there are kettles 1 to 2\n"),
+        (after_2("P\t0\t1\n"), "R\t4\t2\n", "line 2: 4 unknown, kettle not 1 to k\n  the line names kettle 0; there are kettles 1 to 2\n"),
+        (after_2("P\t1\t2\nP\t1\t9\n"), "R\t7\t3\n", "line 3: 7 order, kettle not above the entry before\n  the line names kettle 1 after kettle 1 of the line before\n"),
+        (after_2("P\t2\t2\nP\t1\t2\nA\n"), "R\t7\t3\n", "line 3: 7 order, kettle not above the entry before\n  the line names kettle 1 after kettle 2 of the line before\n"),
+        (after_2("P\t1\t9\n"), "R\t16\t2\n", "line 2: 16 places, a count outside 1 to 8, or over 64 in all\n  the line gives kettle 1 9 places: a kettle has 1 to 8\n"),
+        (after_2("P\t1\t8\nP\t2\t0\n"), "R\t16\t3\n", "line 3: 16 places, a count outside 1 to 8, or over 64 in all\n  the line gives kettle 2 0 places: a kettle has 1 to 8\n"),
+        (b"K\t58\t1\t10\nP\t58\t8\nA\t1\t5\n".into(), "R\t16\t1\n", "line 1: 16 places, a count outside 1 to 8, or over 64 in all\n  with line 2 there are 65 places in all, each kettle without a P line counting one: there may be 64\n"),
+        (b"K\t60\t1\t10\nP\t1\t1\nP\t2\t5\nP\t3\t8\njunk".into(), "R\t16\t1\n", "line 1: 16 places, a count outside 1 to 8, or over 64 in all\n  with line 4 there are 71 places in all, each kettle without a P line counting one: there may be 64\n"),
+        (after_2("P\t1\t2\nA\t1\t5\nA\t3\t5\n"), "R\t4\t4\n", "line 4: 4 unknown, kettle not 1 to k\n  entry 1 names kettle 3; there are kettles 1 to 2\n"),
         (served_of_length(65_537), "R\t15\t0\n", "15 long, text above 65,536 bytes\n"),
         (vec![0; 300_000], "R\t15\t0\n", "15 long, text above 65,536 bytes\n"),
     ];
@@ -74,7 +83,7 @@ fn each_refusal_in_words() {
 
 #[test]
 fn each_bad_line_in_words() {
-    let cases: [(&[u8], u64, &[&str]); 25] = [
+    let cases: [(&[u8], u64, &[&str]); 34] = [
         (b"", 1, &["the text is empty"]),
         (b"K\t2\t1\t10\r\nA\t1\t5\r\n", 1, &["a carriage return (byte 13): the text has Windows line ends, CRLF; save it with line ends LF"]),
         (b"K\t2\t1\t10\rA\t1\t5\r", 1, &["a carriage return (byte 13) stands in it", "without a newline"]),
@@ -100,6 +109,15 @@ fn each_bad_line_in_words() {
         (b"K\t2\t1\n", 1, &["a K line has three numbers"]),
         (b"K\t2\t1\t10\nA\t1\n", 2, &["the last has no worth"]),
         (b"K\t2\t1\t10\nW\n", 2, &["a W line has one number or more"]),
+        (b"K\t2\t1\t10\nP\t1\n", 2, &["a P line has two numbers, a kettle and its places"]),
+        (b"K\t2\t1\t10\nP\t1\t2\t3\n", 2, &["a P line has two numbers, a kettle and its places"]),
+        (b"K\t2\t1\t10\nP\t1\t2\t2\t2\n", 2, &["a P line has two numbers, a kettle and its places"]),
+        (b"K\t2\t1\t10\np\t1\t2\n", 2, &["the letter p is lower-case: write P"]),
+        (b"K\t2\t1\t10\nA\nP\t1\t2\n", 3, &["a P line stands here: P lines stand right after the K line, before any A or W"]),
+        (b"K\t2\t1\t10\nP\t1\t2\nW\t1\nP\t2\t2\n", 4, &["a P line stands here: P lines stand right after the K line, before any A or W"]),
+        (b"K\t2\t1\t10\nP\t1\t2\nY\t1\n", 3, &["it begins with Y: a line begins with A or W, or right after the K line with P"]),
+        (b"P\t1\t2\nK\t2\t1\t10\n", 1, &["it begins with P: the first line begins with K"]),
+        (b"K\t2\t1\t10\nP\t1\t02\n", 2, &["the number 02 has a leading zero"]),
     ];
     for (text, line, reasons) in cases {
         let (status, page, words) = planned(text);
@@ -117,7 +135,8 @@ fn each_bad_line_in_words() {
 fn help() {
     let (status, page, words) = own_with(&["--help"], b"");
     assert_eq!((status, words.as_str()), (0, ""));
-    for part in ["./plan [FILE]", "--page", "  K  ", "  A  ", "  W  ", "  0  ", "  1  ", "  2  "] {
+    let parts = ["./plan [FILE]", "--page", "  K  ", "  P  kettle  places", "  A  ", "  W  "];
+    for part in parts.iter().chain(&["  P  batch", "  0  ", "  1  ", "  2  "]) {
         assert!(page.contains(part), "{part}");
     }
 }

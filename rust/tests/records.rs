@@ -2,10 +2,12 @@
 //! of soundness broken, any numbers at all; and the check on all sorts of claims.
 
 use noughtelm_tests::gen::history::Kind;
+use noughtelm_tests::gen::plan::times;
 use noughtelm_tests::gen::{board, claim, history, items};
 use noughtelm_tests::model::auction::*;
 use noughtelm_tests::model::calls::*;
 use noughtelm_tests::model::check::{Claim, Totals, MAX_PRICE};
+use noughtelm_tests::model::hungarian::solve;
 use noughtelm_tests::model::refusal::*;
 use noughtelm_tests::model::sound::{from_record, is_sound, to_record, Record};
 use noughtelm_tests::rng::Rng;
@@ -16,8 +18,7 @@ const MARK: u64 = 0xabcd_ef01_2345_6789;
 fn share_holds(auction: &Auction) {
     let Slack { p, q } = auction.slack;
     assert_eq!(auction.sum(), (q + p) * auction.weight());
-    let exact = claim::exact(auction);
-    let best = exact.price.iter().chain(&exact.gain).sum::<u64>();
+    let best = solve(&auction.live_weights(), &auction.counts()).weight;
     assert!((q + p) * auction.weight() >= (q - p) * best);
 }
 
@@ -177,8 +178,9 @@ fn met(r: &Record, c: &Claim) -> Vec<Refusal> {
         }
         for (b, i) in (0..bidders).flat_map(|b| (0..items).map(move |i| (b, i))) {
             let paid = c.gain[b] as u128 + c.price[i] as u128;
-            let bare = paid < factor * r.rows[b][i] as u128;
-            note(!r.is_gone(i) && r.rows[b][i] > 0 && bare, BARE, b + 1);
+            let weight = r.weight_at(b, i);
+            let bare = paid < factor * weight as u128;
+            note(!r.is_gone(i) && weight > 0 && bare, BARE, b + 1);
         }
     }
     all
@@ -193,16 +195,18 @@ fn cell_clashes(r: &Record, c: &Claim, bidder: usize) -> bool {
         return true;
     }
     let item = cell as usize - 1;
-    r.is_gone(item) || r.rows[bidder][item] == 0 || c.matching[..bidder].contains(&cell)
+    let full = times(&c.matching[..bidder], cell) >= r.counts[item] as u64;
+    r.is_gone(item) || r.weight_at(bidder, item) == 0 || full
 }
 
 fn totals(r: &Record, c: &Claim) -> Totals {
     let weight = |(b, &cell): (usize, &u64)| match cell {
         0 => 0,
-        cell => r.rows[b][cell as usize - 1] as u64,
+        cell => r.weight_at(b, cell as usize - 1),
     };
     let weight = c.matching.iter().enumerate().map(weight).sum();
-    Totals { weight, sum: c.price.iter().sum::<u64>() + c.gain.iter().sum::<u64>() }
+    let prices = c.price.iter().zip(&r.counts).map(|(price, &count)| count as u64 * price);
+    Totals { weight, sum: prices.sum::<u64>() + c.gain.iter().sum::<u64>() }
 }
 
 fn try_claim(record: &Record, claim: &Claim, seen: &mut BTreeMap<u64, u64>) {
@@ -216,7 +220,7 @@ fn try_claim(record: &Record, claim: &Claim, seen: &mut BTreeMap<u64, u64>) {
 }
 
 fn reached(rng: &mut Rng) -> Record {
-    let kind = rng.pick(&[Kind::Small, Kind::Ties, Kind::Withdrawals]);
+    let kind = rng.pick(&[Kind::Small, Kind::Ties, Kind::Withdrawals, Kind::Places]);
     to_record(&history::history(rng, kind).auction())
 }
 

@@ -9,17 +9,18 @@ use noughtelm_tests::gen::board::sound;
 use noughtelm_tests::gen::history::{history, level, slope, staircase, Call, History, Kind};
 use noughtelm_tests::gen::items::items_of;
 use noughtelm_tests::gen::text::write;
-use noughtelm_tests::model::auction::{Edge, Slack, MAX_ITEMS};
+use noughtelm_tests::model::auction::{Edge, Slack, MAX_PLACES};
 use noughtelm_tests::rng::Rng;
 use noughtelm_tests::slides::bar::{call_near_the_bar, history_near_the_bar};
 use noughtelm_tests::slides::beside::*;
 use noughtelm_tests::slides::fraction::Fraction;
-use noughtelm_tests::slides::Slides;
+use noughtelm_tests::slides::{Place, Slides};
+use std::collections::BTreeSet;
 
 fn run(history: &History, met: &mut Met) -> Same<()> {
     let Slack { p, q } = history.slack;
-    let mut ours = ffi::open(history.items, p, q).board;
-    let mut slides = Slides::open(history.items, p, q);
+    let mut ours = ffi::open_places(history.items(), p, q, &history.counts).board;
+    let mut slides = Slides::open(&history.counts, p, q);
     for (index, call) in history.calls.iter().enumerate() {
         step(&mut ours, &mut slides, call, met)
             .map_err(|found| format!("call {}: {found}", index + 1))?;
@@ -74,13 +75,30 @@ fn histories_of_lists() {
     assert!(met.several > 150 && met.displaced > 10_000 && met.weights > 100);
 }
 
+/// Each place with its own price (document 02, R-6): places of one item that stand equal,
+/// several displaced at once.
+#[test]
+fn histories_of_places() {
+    for (kind, count) in [
+        (Kind::Places, 200),
+        (Kind::PlacesTies, 400),
+        (Kind::PlacesEqualUtility, 400),
+        (Kind::PlacesLists, 150),
+    ] {
+        let met = run_kind(kind, count);
+        assert!(met.places > 1_000 && met.displaced > 1_000 && met.several > 50);
+    }
+    let met = run_kind(Kind::PlacesLimits, 10);
+    assert!(met.calls > 1_000 && met.displaced > 500);
+}
+
 // ---- prices at the bar
 
 #[test]
 fn histories_near_the_bar() {
     let mut met = Met::default();
     for seed in 810_000..810_600 {
-        let history = history_near_the_bar(&mut Rng::new(seed));
+        let history = history_near_the_bar(&mut Rng::new(seed), 1);
         if let Err(found) = run(&history, &mut met) {
             panic!("seed {seed}: {found}\n{history:?}");
         }
@@ -89,28 +107,43 @@ fn histories_near_the_bar() {
     assert!(met.bar > 4_000 && met.decides > 2_000 && met.closed > 500 && met.displaced > 1_500);
 }
 
+#[test]
+fn histories_of_places_near_the_bar() {
+    let mut met = Met::default();
+    for seed in 811_000..811_600 {
+        let history = history_near_the_bar(&mut Rng::new(seed), 3);
+        if let Err(found) = run(&history, &mut met) {
+            panic!("seed {seed}: {found}\n{history:?}");
+        }
+    }
+    println!("{met:?}");
+    assert!(met.bar > 4_000 && met.decides > 1_000 && met.closed > 500 && met.places > 1_000);
+}
+
 // ---- sound boards that no history reaches
 
-fn weight_at(slides: &Slides, u: u64, v: u64) -> Fraction {
-    let edge = slides.edges[&v].iter().find(|(item, _)| *item == u);
+fn weight_at(slides: &Slides, u: Place, v: u64) -> Fraction {
+    let edge = slides.edges[&v].iter().find(|(item, _)| *item == u.0);
     edge.expect("items are allocated along edges").1
 }
 
 /// In every history the gain of a bidder that has an item is above ε times the weight.
 fn is_unreached(slides: &Slides) -> bool {
-    let bar = |u: u64, v: u64| slides.epsilon * weight_at(slides, u, v);
+    let bar = |u: Place, v: u64| slides.epsilon * weight_at(slides, u, v);
     slides.allocated.iter().any(|(&u, &v)| slides.gains[&v] <= bar(u, v))
 }
 
-fn slides_of(b: &ffi::Auction) -> Slides {
-    let mut slides = Slides::open(b.items, b.slack.p, b.slack.q);
+fn slides_of(b: &ffi::Board) -> Slides {
+    let mut slides = Slides::open(&record(b).counts(), b.slack.p, b.slack.q);
     let pence = |cell: ffi::Scaled| Fraction::new(cell.0 as i64, b.slack.q as i64);
-    for row in b.weights.chunks(MAX_ITEMS).take(b.arrived as usize) {
-        let edges = (1..).zip(row).filter(|(_, &weight)| weight != 0);
-        slides.arrive(edges.map(|(item, &weight)| (item, weight as u64)));
+    for row in b.weights.chunks(MAX_PLACES).take(b.arrived as usize) {
+        let weight = |item: u64| row[b.places_of(item as usize - 1).start] as u64;
+        let edges = (1..=b.items.count).map(|item| (item, weight(item)));
+        slides.arrive(edges.filter(|(_, weight)| *weight != 0));
     }
     slides.waiting.clear();
-    for (u, cell) in (1..=b.items).zip(0..) {
+    let places: Vec<Place> = slides.prices.keys().copied().collect();
+    for (u, cell) in places.into_iter().zip(0..) {
         slides.prices.insert(u, pence(b.price[cell]));
         let holder = b.holder[cell] as u64;
         if holder != 0 {
@@ -145,23 +178,25 @@ fn sound_boards_that_no_history_reaches() {
 
 /// What the program prints for an accepted text, up to the number in the last line.
 fn printed(slides: &Slides, history: &History, bids: u64) -> String {
-    let [matching, prices, gains] = lists(slides, history.items, history.slack.q);
+    let [matching, prices, gains] = lists(slides, history.items(), history.slack.q);
     let mut out = String::new();
     for (v, (u, gain)) in (1..).zip(matching.iter().zip(&gains)) {
         out.push_str(&format!("P\t{v}\t{u}\t{gain}\n"));
     }
-    for u in slides.prices.keys() {
-        out.push_str(&format!("Y\t{u}\t{}\n", prices[*u as usize - 1]));
+    let items: BTreeSet<u64> = slides.prices.keys().map(|(item, _)| *item).collect();
+    for item in items {
+        out.push_str(&format!("Y\t{item}\t{}\n", prices[item as usize - 1]));
     }
     let held = slides.allocated.iter().map(|(&u, &v)| weight_at(slides, u, v));
     let weight: u64 = held.map(|weight| scaled(Some(&weight), 1)).sum();
-    let sum: u64 = prices.iter().chain(&gains).sum();
+    let every_price = slides.prices.values().map(|y| scaled(Some(y), history.slack.q));
+    let sum: u64 = every_price.chain(gains).sum();
     out + &format!("T\t{weight}\t{sum}\t{bids}\nE\t")
 }
 
 /// A history's text, replayed and planned.
 fn run_text(history: &History, met: &mut Met) -> Same<()> {
-    let mut slides = Slides::open(history.items, history.slack.p, history.slack.q);
+    let mut slides = Slides::open(&history.counts, history.slack.p, history.slack.q);
     let mut bids = 0;
     for call in &history.calls {
         enter(&mut slides, call);
@@ -182,15 +217,15 @@ fn run_text(history: &History, met: &mut Met) -> Same<()> {
 #[test]
 fn texts_of_histories() {
     let mut met = Met::default();
-    let served = Kind::ALL.into_iter().filter(|&kind| kind != Kind::Refused);
-    let counts = served.map(|kind| (kind, if kind == Kind::Limits { 4 } else { 60 }));
+    let served = Kind::ALL.into_iter().filter(|kind| kind.is_served());
+    let counts = served.map(|kind| (kind, if kind.is_large() { 4 } else { 60 }));
     let mut histories = vec![staircase(64), level(64, 128), slope(64)];
     for (kind, count) in counts {
         let rng = &mut Rng::new(830_000 + kind as u64);
         histories.extend((0..count).map(|_| history(rng, kind)));
     }
     let rng = &mut Rng::new(840_000);
-    histories.extend((0..100).map(|_| history_near_the_bar(rng)));
+    histories.extend((0..100).map(|n| history_near_the_bar(rng, 1 + 3 * (n % 2))));
     // "an empty list changes nothing in a call and is badly formed as a line".
     let nothing = |call: &Call| matches!(call, Call::Withdraw(items) if items.is_empty());
     for history in &mut histories {
@@ -287,10 +322,11 @@ fn turn_by_hand(slides: &mut Slides, &Turn(v, offers, taken): &Turn) {
     assert_eq!(slides.waiting.pop_front(), Some(v));
     let open = slides.test_open(v);
     let expected: Vec<_> = offers.iter().map(|&(u, utility)| (u, quarters(utility))).collect();
-    assert_eq!(open.iter().map(|uv| (uv.item, uv.utility)).collect::<Vec<_>>(), expected);
+    assert_eq!(open.iter().map(|uv| (uv.place.0, uv.utility)).collect::<Vec<_>>(), expected);
     let picked = Slides::pick(&open);
-    assert_eq!(picked.map(|uv| uv.item), taken.map(|(u, _, _)| u));
+    assert_eq!(picked.map(|uv| uv.place), taken.map(|(u, _, _)| (u, 1)));
     let Some((picked, (u, price, had))) = picked.zip(taken) else { return };
+    let u = (u, 1);
     slides.price(picked);
     assert_eq!(slides.prices[&u], quarters(price));
     assert_eq!(slides.allocated.get(&u).map_or(0, |&v| v), had, "not handed over yet");
@@ -302,7 +338,7 @@ fn turn_by_hand(slides: &mut Slides, &Turn(v, offers, taken): &Turn) {
 /// The steps, the while around them and the library's calls come to what was worked out.
 #[test]
 fn a_chain_by_hand() {
-    let (mut slides, mut ours) = (Slides::open(4, 1, 4), ffi::open(4, 1, 4).board);
+    let (mut slides, mut ours) = (Slides::open(&[1; 4], 1, 4), ffi::open(4, 1, 4).board);
     for (given, turns, left) in WORKED {
         let call = given.call();
         enter(&mut slides, &call);

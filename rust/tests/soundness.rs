@@ -9,7 +9,7 @@ use noughtelm_tests::gen::list::rising;
 use noughtelm_tests::model::auction::*;
 use noughtelm_tests::model::check::Claim;
 use noughtelm_tests::model::refusal::*;
-use noughtelm_tests::model::sound::Record;
+use noughtelm_tests::model::sound::{to_record, Record};
 use noughtelm_tests::rng::Rng;
 
 const CALLS: [&str; 7] =
@@ -78,13 +78,64 @@ fn every_clause_counts() {
     }
 }
 
+/// Two items of two places and one of one; bidder 1 at the first, and item 2 withdrawn.
+fn by_hand() -> Record {
+    let slack = Slack { p: 1, q: 10 };
+    let mut auction = Auction::open_places(3, slack, &[2, 2, 1]).expect("it opens");
+    let edges = [1, 2].map(|item| Edge { item, weight: 100 });
+    auction.arrive(&edges).expect("a good list");
+    auction.arrive(&[Edge { item: 2, weight: 50 }]).expect("a good list");
+    auction.withdraw(&[2]).expect("item 2 is there");
+    to_record(&auction)
+}
+
+/// "Soundness is read place by place" (document 02, R-6): the new clauses broken at a cell or
+/// two of a board that is sound without that.
+#[test]
+fn clauses_of_places_by_hand() {
+    type Break = fn(&mut Record);
+    let breaks: [(&str, Break); 21] = [
+        ("a count of 0", |r| r.counts[2] = 0),
+        ("a count less", |r| r.counts[0] = 1),
+        ("a count more", |r| r.counts[0] = 3),
+        ("counts exchanged", |r| r.counts.swap(0, 2)),
+        ("a count of 9", |r| (r.counts[2], r.places) = (9, 13)),
+        ("a count of 255", |r| (r.counts[2], r.places) = (255, 259)),
+        ("an unused count", |r| r.counts[3] = 1),
+        ("the last unused count", |r| r.counts[63] = 1),
+        ("an item more", |r| r.items = 4),
+        ("an item fewer", |r| r.items = 2),
+        ("an item fewer, and its place", |r| (r.items, r.places) = (2, 4)),
+        ("a place more", |r| r.places = 6),
+        ("a place fewer", |r| r.places = 4),
+        ("no places", |r| r.places = 0),
+        ("places in the lower bits", |r| r.places += 1 << 32),
+        ("a weight less at one place", |r| r.rows[0][1] = 99),
+        ("no edge at one place", |r| r.rows[0][1] = 0),
+        ("an edge at one place", |r| r.rows[1][3] = 49),
+        ("an edge at a withdrawn place", |r| r.rows[0][3] = 7),
+        ("the flag of one place", |r| r.withdrawn[1] = 1),
+        ("the flag of the other", |r| r.withdrawn[2] = 0),
+    ];
+    let mut seen = Tally::default();
+    for (what, spoil) in breaks {
+        let mut record = by_hand();
+        assert_eq!(Both::on(record.clone(), &mut seen).is_sound(), Ok(true));
+        spoil(&mut record);
+        for seed in 0..20 {
+            assert_spoilt(&record, &mut Rng::new(seed), &mut seen, &|| what.into());
+        }
+    }
+    CALLS.iter().for_each(|call| seen.assert_seen(call, &[SPOILT], 21 * 20));
+}
+
 /// The cells past the items and past the bidders, on boards of several sizes.
 #[test]
 fn every_unused_cell_counts() {
-    let (mut seen, mut kinds) = (Tally::default(), [0; 5]);
+    let (mut seen, mut kinds) = (Tally::default(), [0; 6]);
     for seed in 32_000..32_004 {
         let rng = &mut Rng::new(seed);
-        let sound = (0..).map(|_| board::sound(rng)).find(|r| r.items < 64 && r.arrived < 128);
+        let sound = (0..).map(|_| board::sound(rng)).find(|r| r.places < 64 && r.arrived < 128);
         let sound = sound.unwrap();
         for cell in board::unused_cells(&sound) {
             let mut record = sound.clone();
@@ -97,6 +148,7 @@ fn every_unused_cell_counts() {
                 Unused::Withdrawn(_) => 2,
                 Unused::Gain(_) => 3,
                 Unused::Weight(..) => 4,
+                Unused::Count(_) => 5,
             }] += 1;
         }
     }
@@ -109,7 +161,7 @@ fn every_unused_cell_counts() {
 #[test]
 fn changed_numbers() {
     let mut seen = Tally::default();
-    for seed in 33_000..41_000 {
+    for seed in 33_000..42_000 {
         let rng = &mut Rng::new(seed);
         let mut record = board::sound(rng);
         (0..rng.range(1, 3)).for_each(|_| board::nudge(rng, &mut record));

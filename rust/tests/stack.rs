@@ -4,8 +4,8 @@
 
 use noughtelm_tests::both::{board, record, shown, wide, Both, Tally};
 use noughtelm_tests::ffi::{self, MAX_OUTPUT};
-use noughtelm_tests::gen::history::{level, slope, staircase, staircase_down, History};
-use noughtelm_tests::gen::text::{dense, write};
+use noughtelm_tests::gen::history::{level, level_of, slope, staircase, staircase_down, History};
+use noughtelm_tests::gen::text::{dense, dense_places, write};
 use noughtelm_tests::model::sound::to_record;
 use noughtelm_tests::model::text::sheet;
 use noughtelm_tests::program;
@@ -13,13 +13,20 @@ use std::cmp::Ordering;
 use std::ops::RangeInclusive;
 use std::thread;
 
-/// Paths over every item, for 2 to 64 items, and sheets on which every item is seen.
+/// Paths over every item, for 2 to 64 items, and sheets on which every item, or every place
+/// of some, is seen.
 fn deep_histories() -> Vec<History> {
     let makers: [fn(u64) -> History; 3] = [staircase, staircase_down, slope];
     let mut all: Vec<History> = makers.iter().flat_map(|make| (2..=64).map(make)).collect();
     all.extend([64, 65, 66, 128].map(|bidders| level(64, bidders)));
+    for (count, items) in [(2, 32), (4, 16), (8, 8)] {
+        all.extend([64, 65, 128].map(|bidders| level_of(vec![count; items], bidders)));
+    }
     all
 }
+
+/// How many there are.
+const DEEP: usize = 3 * 63 + 4 + 9;
 
 /// 64 bidders at 64 items in a row. Without the last, each may hold the lower of
 /// its items; with it, every one of them holds the higher.
@@ -53,7 +60,7 @@ fn calls_in_a_thread_of_2_mb() {
         }
         seen.of("exact", 0)
     });
-    assert_eq!(tried, 3 * 63 + 4);
+    assert_eq!(tried, DEEP as u64);
 }
 
 #[test]
@@ -69,7 +76,7 @@ fn texts_in_a_thread_of_2_mb() {
         }
         tried
     });
-    assert_eq!(tried, 3 * 63 + 4);
+    assert_eq!(tried, DEEP);
 }
 
 #[test]
@@ -80,15 +87,20 @@ fn program_under_a_limit_of_1_mb() {
         assert_eq!(program::printed(output), shown(&sheet(&text)), "{:?}", shown(&text));
         tried += 1;
     }
-    assert_eq!(tried, 3 * 63 + 4);
+    assert_eq!(tried, DEEP);
 }
 
-/// The board of the dense text: its own plan beside itself and beside the exact one.
+/// The boards of the dense texts: each one's own plan beside itself and beside the exact one.
 #[test]
 fn plans_in_a_thread_of_2_mb() {
-    let difference = in_a_small_thread(|| {
+    compare_plans(dense());
+    compare_plans(dense_places());
+}
+
+fn compare_plans(text: Vec<u8>) {
+    let difference = in_a_small_thread(move || {
         let mut seen = Tally::default();
-        let mut both = Both::on(record(&ffi::replay(&dense()).board), &mut seen);
+        let mut both = Both::on(record(&ffi::replay(&text).board), &mut seen);
         let [own, ..] = both.read_out(wide()).expect("both agree").expect("room");
         let exact = both.exact(wide()).expect("both agree").expect("room").matching;
         let own = &own[..exact.len()];
@@ -108,6 +120,22 @@ fn long_lists_in_a_thread_of_2_mb() {
         let mut seen = Tally::default();
         let full = record(&ffi::replay(&dense()).board);
         for items in LONG_LISTS {
+            let mut both = Both::on(full.clone(), &mut seen);
+            let answer = both.withdraw(&items.collect::<Vec<u64>>());
+            answer.unwrap_or_else(|found| panic!("{found}")).expect("live items");
+        }
+        full.holder.iter().filter(|&&holder| holder != 0).count()
+    });
+    assert_eq!(displaced, 64);
+}
+
+/// Items of four places each.
+#[test]
+fn lists_of_places_in_a_thread_of_2_mb() {
+    let displaced = in_a_small_thread(|| {
+        let mut seen = Tally::default();
+        let full = record(&ffi::replay(&dense_places()).board);
+        for items in [1..=8, 9..=16, 1..=15, 1..=16] {
             let mut both = Both::on(full.clone(), &mut seen);
             let answer = both.withdraw(&items.collect::<Vec<u64>>());
             answer.unwrap_or_else(|found| panic!("{found}")).expect("live items");

@@ -2,7 +2,7 @@
 //! them, random and damaged texts, and texts at the limit of length.
 
 use noughtelm_tests::gen::history::{history, staircase, Kind};
-use noughtelm_tests::gen::text::{dense, mutate, random, write};
+use noughtelm_tests::gen::text::{dense, dense_places, mutate, random, write};
 use noughtelm_tests::model::text::replay;
 use noughtelm_tests::rng::Rng;
 use noughtelm_tests::{fast, model};
@@ -70,7 +70,7 @@ fn random_texts() {
         seen.compare(&random(&mut rng));
     }
     println!("answers by number: {:?}", seen.0);
-    assert!([0, 4, 5, 6, 7, 14].iter().all(|&n| seen.of(n) > 50));
+    assert!([0, 4, 5, 6, 7, 14, 16].iter().all(|&n| seen.of(n) > 50));
 }
 
 #[test]
@@ -79,12 +79,12 @@ fn damaged_texts() {
     let mut rng = Rng::new(23);
     for round in 0..20_000 {
         let kind = Kind::ALL[round % Kind::ALL.len()];
-        let kind = if kind == Kind::Limits { Kind::Small } else { kind };
+        let kind = if kind.is_large() { Kind::Small } else { kind };
         let text = write(&history(&mut rng, kind));
         seen.compare(&mutate(&mut rng, &text));
     }
     println!("answers by number: {:?}", seen.0);
-    assert!([0, 1, 2, 4, 5, 6, 7, 14, 15].iter().all(|&n| seen.of(n) > 10));
+    assert!([0, 1, 2, 4, 5, 6, 7, 14, 15, 16].iter().all(|&n| seen.of(n) > 10));
 }
 
 #[test]
@@ -94,6 +94,17 @@ fn dense_text_fits() {
     let (auction, bids) = replay(&text).unwrap();
     assert_eq!((auction.items.len(), auction.bidders.len()), (64, 128));
     assert!(auction.bidders.iter().all(|b| b.edges.len() == 64));
+    println!("{} bytes, {bids} bids", text.len());
+    Seen::default().compare(&text);
+}
+
+#[test]
+fn dense_text_of_places_fits() {
+    let text = dense_places();
+    assert!(text.len() <= 65_536, "{} bytes", text.len());
+    let (auction, bids) = replay(&text).unwrap();
+    assert_eq!((auction.counts(), auction.bidders.len()), (vec![4; 16], 128));
+    assert!(auction.bidders.iter().all(|b| b.edges.len() == 16));
     println!("{} bytes, {bids} bids", text.len());
     Seen::default().compare(&text);
 }

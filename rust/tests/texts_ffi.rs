@@ -8,7 +8,8 @@ use noughtelm_tests::both::{
 };
 use noughtelm_tests::ffi::MAX_OUTPUT;
 use noughtelm_tests::gen::history::{history, staircase, Kind};
-use noughtelm_tests::gen::text::{dense, mutate, random, served_of_length, write};
+use noughtelm_tests::gen::text::{dense, dense_places, mutate, random, served_of_length, write};
+use noughtelm_tests::model::refusal::{Refusal, PLACES};
 use noughtelm_tests::rng::Rng;
 use noughtelm_tests::{fast, ffi, model};
 use std::fs;
@@ -68,7 +69,7 @@ fn stored_texts() {
 fn texts_of_histories() {
     let mut seen = Tally::default();
     for kind in Kind::ALL {
-        let count = if kind == Kind::Limits { 40 } else { 300 };
+        let count = if kind.is_large() { 40 } else { 300 };
         for seed in (0..count).map(|n| 110_000 + 1_000 * kind as u64 + n) {
             try_text(seed, &write(&history(&mut Rng::new(seed), kind)), &mut seen);
         }
@@ -86,13 +87,13 @@ fn damaged_texts() {
     for seed in 120_000..140_000 {
         let rng = &mut Rng::new(seed);
         let kind = Kind::ALL[seed as usize % Kind::ALL.len()];
-        let kind = if kind == Kind::Limits { Kind::Small } else { kind };
+        let kind = if kind.is_large() { Kind::Small } else { kind };
         let text = write(&history(rng, kind));
         try_text(seed, &mutate(rng, &text), &mut seen);
     }
     println!("{seen:?}");
-    seen.assert_seen("replay", &[0, 1, 2, 4, 5, 6, 7, 14, 15], 20);
-    seen.assert_seen("plan", &[0, 1, 2, 4, 5, 6, 7, 8, 14, 15], 50);
+    seen.assert_seen("replay", &[0, 1, 2, 4, 5, 6, 7, 14, 15, 16], 20);
+    seen.assert_seen("plan", &[0, 1, 2, 4, 5, 6, 7, 8, 14, 15, 16], 50);
     seen.assert_seen("sheet", &[0, 8], 40_000);
 }
 
@@ -102,11 +103,22 @@ fn first_lines(text: &[u8], count: u64) -> &[u8] {
     &text[..lines.map(<[u8]>::len).sum()]
 }
 
+/// The lines before the refused one. Where `P` lines come to over 64 places this is told at line
+/// 1: then they are the longest beginning that is served.
+fn lines_before(text: &[u8], refusal: Refusal) -> &[u8] {
+    let served = |&count: &u64| model::text::replay(first_lines(text, count)).is_ok();
+    let count = match refusal {
+        Refusal { number: PLACES, place: 1 } => (1..).take_while(served).last().unwrap_or(0),
+        Refusal { place, .. } => place.saturating_sub(1),
+    };
+    first_lines(text, count)
+}
+
 /// A refused text has the board and the bids of the lines before the refused one, which are
 /// served by themselves. There are none where the first line is refused, or the length.
 fn keep_lines_before(text: &[u8], seen: &mut Tally) -> Same<()> {
     let Some(refusal) = equal_texts(text, seen)? else { return Ok(()) };
-    let before = first_lines(text, refusal.place.saturating_sub(1));
+    let before = lines_before(text, refusal);
     let alone = equal_texts(before, &mut Tally::default())?;
     equal("the lines before, refused", alone.is_some(), before.is_empty())?;
     let (ours, expected) = (ffi::replay(text), ffi::replay(before));
@@ -133,7 +145,7 @@ fn a_refused_text_keeps_the_lines_before() {
         }
     }
     println!("{seen:?}");
-    seen.assert_seen("replay", &[0, 1, 2, 4, 5, 6, 7, 14, 15], 10);
+    seen.assert_seen("replay", &[0, 1, 2, 4, 5, 6, 7, 14, 15, 16], 10);
     seen.assert_seen("bids before", &[0, 1], 1_000);
     assert!((1..=5).all(|bidders| seen.of("bidders before", bidders) > 50));
 }
@@ -145,7 +157,7 @@ fn random_texts() {
         try_text(seed, &random(&mut Rng::new(seed)), &mut seen);
     }
     println!("{seen:?}");
-    assert!([0, 4, 5, 6, 7, 14].iter().all(|&number| seen.of("replay", number) > 50));
+    assert!([0, 4, 5, 6, 7, 14, 16].iter().all(|&number| seen.of("replay", number) > 50));
     assert!(seen.of("plan", 0) > 500 && seen.of("plan", 8) > 500);
 }
 
@@ -187,6 +199,7 @@ const FILLERS: [(&str, &str); 12] = [
 fn texts_at_the_limit() {
     let mut seen = Tally::default();
     try_text(0, &dense(), &mut seen);
+    try_text(0, &dense_places(), &mut seen);
     for length in 65_535..=65_537 {
         try_text(0, &served_of_length(length), &mut seen);
         for (start, filler) in FILLERS {
@@ -200,7 +213,7 @@ fn texts_at_the_limit() {
         }
     }
     println!("{seen:?}");
-    assert_eq!((seen.of("replay", 0), seen.of("replay", 15)), (3, 13));
+    assert_eq!((seen.of("replay", 0), seen.of("replay", 15)), (4, 13));
     seen.assert_seen("replay", &[0, 3, 4, 5, 7, 14, 15], 1);
     seen.assert_seen("sheet", &[0, 8], 50);
 }
@@ -208,7 +221,7 @@ fn texts_at_the_limit() {
 #[test]
 fn lines_of_refusals() {
     let mut seen = Tally::default();
-    let numbers = [0, 1, 9, 10, 14, 15, 99, 1 << 32, u64::MAX - 1, u64::MAX];
+    let numbers = [0, 1, 9, 10, 14, 15, 16, 99, 1 << 32, u64::MAX - 1, u64::MAX];
     for number in numbers {
         for line in numbers {
             for room in (0..50).chain([200, MAX_OUTPUT, MAX_OUTPUT + 1]) {

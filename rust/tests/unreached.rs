@@ -33,7 +33,7 @@ fn live_arrival(rng: &mut Rng, r: &Record) -> Vec<Edge> {
 fn bad_arrival(rng: &mut Rng, r: &Record) -> Vec<Edge> {
     let mut edges = live_arrival(rng, r);
     edges.push(Edge { item: 1, weight: 1 });
-    let gone = (0..64).find(|&i| r.is_gone(i)).map_or(0, |item| item as u64 + 1);
+    let gone = (0..r.items).find(|&i| r.is_gone(i as usize)).map_or(0, |item| item + 1);
     let number = rng.pick(&[UNKNOWN, GONE, WORTH, ORDER]);
     let place = edges.len();
     list::spoil(rng, &mut edges, place, number, gone);

@@ -4,7 +4,7 @@
 use noughtelm_tests::both::shown;
 use noughtelm_tests::ffi::MAX_PAGE;
 use noughtelm_tests::gen::history::{history, staircase, Kind};
-use noughtelm_tests::gen::text::{dense, mutate, random, served_of_length, write};
+use noughtelm_tests::gen::text::{dense, dense_places, mutate, random, served_of_length, write};
 use noughtelm_tests::model::text::page_of;
 use noughtelm_tests::program::{at_terminal, built, command_of, feed, printed, reported, run};
 use noughtelm_tests::rng::Rng;
@@ -97,7 +97,8 @@ fn lost_output_is_reported() {
 
 #[test]
 fn under_a_limit_of_1_mb() {
-    for text in [dense(), write(&staircase(64)), served_of_length(65_536), CASE_1.to_vec()] {
+    let longest = served_of_length(65_536);
+    for text in [dense(), dense_places(), write(&staircase(64)), longest, CASE_1.to_vec()] {
         let output = run(wall("ulimit -s 1024 &&", ""), &text);
         assert_eq!(printed(output), shown(&page_of(&text)));
     }

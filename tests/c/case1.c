@@ -2,13 +2,18 @@
 #include "checks.h"
 
 /* Opening and two arrivals. Bids in all: 7. */
-static noughtelm_auction by_calls(void)
+static noughtelm_board by_calls(void)
 {
     const noughtelm_edge first[] = {{1, 100}, {2, 60}};
     const noughtelm_edge second[] = {{1, 90}};
-    const noughtelm_answer opened = noughtelm_open(2, 1, 10);
+    const uint64_t counts[] = {1, 1};
+    const noughtelm_answer opened = noughtelm_open(2, 1, 10, counts, 2);
     told_is("open", told_of(&opened), 0, 0, 0);
-    number_is("open, items", opened.board.market.items, 2);
+    number_is("open, items", opened.board.items.count, 2);
+    number_is("open, places of item 1", opened.board.items.places[0], 1);
+    number_is("open, places of item 2", opened.board.items.places[1], 1);
+    number_is("open, places of no item", opened.board.items.places[2], 0);
+    number_is("open, places", opened.board.market.items, 2);
     number_is("open, p", opened.board.market.slack.p, 1);
     number_is("open, q", opened.board.market.slack.q, 10);
     number_is("open, bidders", opened.board.market.arrived, 0);
@@ -24,10 +29,10 @@ static noughtelm_auction by_calls(void)
 }
 
 /* The same with the edges in a buffer. */
-static void by_buffers(const noughtelm_auction *expected)
+static void by_buffers(const noughtelm_board *expected)
 {
     noughtelm_edge_buffer buffer = {{1, 2}, {100, 60}, 2};
-    noughtelm_answer answer = noughtelm_arrive_buffer(noughtelm_open(2, 1, 10).board, buffer);
+    noughtelm_answer answer = noughtelm_arrive_buffer(open_ones(2, 1, 10).board, buffer);
     told_is("first buffer", told_of(&answer), 0, 0, 1);
     buffer.weights[0] = 90;
     buffer.count = 1;
@@ -37,7 +42,7 @@ static void by_buffers(const noughtelm_auction *expected)
 }
 
 /* The record's own cells. */
-static void cells_of_the_board(const noughtelm_auction *board)
+static void cells_of_the_board(const noughtelm_board *board)
 {
     number_is("price 1", board->state.price[0], 570);
     number_is("price 2", board->state.price[1], 60);
@@ -57,7 +62,7 @@ static void lists_are(const char *what, const uint64_t *lists, const uint64_t *e
     cells_are(what, lists, expected, 9);
 }
 
-static void read_out(const noughtelm_auction *board)
+static void read_out(const noughtelm_board *board)
 {
     uint64_t lists[] = {9, 9, 9, 9, 9, 9, 9, 9, 9};
     const uint64_t kept[] = {9, 9, 9, 9, 9, 9, 9, 9, 9};
@@ -73,7 +78,7 @@ static void read_out(const noughtelm_auction *board)
 }
 
 /* Line `E`: 150. The lists that come out pass the check with equal totals. */
-static void exact(const noughtelm_auction *board)
+static void exact(const noughtelm_board *board)
 {
     uint64_t lists[] = {9, 9, 9, 9, 9, 9, 9, 9, 9};
     const uint64_t kept[] = {9, 9, 9, 9, 9, 9, 9, 9, 9};
@@ -88,7 +93,7 @@ static void exact(const noughtelm_auction *board)
 }
 
 /* Cases 7 and 8. */
-static void check(const noughtelm_auction *board)
+static void check(const noughtelm_board *board)
 {
     const uint64_t plan[] = {2, 1}, prices[] = {40, 0}, low[] = {39, 0}, gains[] = {60, 50};
     totals_are("case 7", noughtelm_check(*board, plan, 2, prices, 2, gains, 2, 0, 1), 0, 0, 150, 150);
@@ -96,7 +101,7 @@ static void check(const noughtelm_auction *board)
 }
 
 /* Case 2: "batch 2 unplaced, worth 60, sum 660, no bid". Then case 14. */
-static void withdraw(const noughtelm_auction *board)
+static void withdraw(const noughtelm_board *board)
 {
     uint64_t lists[] = {9, 9, 9, 9, 9, 9, 9, 9, 9};
     const uint64_t left[] = {2, 0, 9, 0, 60, 9, 600, 0, 9};
@@ -130,7 +135,7 @@ static void list_is(const char *what, const uint8_t *out, size_t room, const cha
 
 #define LENGTH_1 (sizeof(PRINTED_1) - 1)
 
-static void texts(const noughtelm_auction *board)
+static void texts(const noughtelm_board *board)
 {
     uint8_t out[200];
     const noughtelm_answer replayed = noughtelm_replay(TEXT(CASE_1));
@@ -156,10 +161,10 @@ static void texts(const noughtelm_auction *board)
 #define PRINTED_REFUSAL "R\t5\t5\n"
 
 /* Case 14 as a text: item 1 is withdrawn in line 4, and again in line 5. */
-static void refused_texts(const noughtelm_auction *board)
+static void refused_texts(const noughtelm_board *board)
 {
     uint8_t out[200];
-    const noughtelm_auction gone = without(*board, 1);
+    const noughtelm_board gone = without(*board, 1);
     const noughtelm_answer replayed = noughtelm_replay(TEXT(REFUSED));
     told_is("refused replay", told_of(&replayed), 5, 5, 7);
     board_is("refused replay, the board", &replayed.board, &gone);
@@ -177,8 +182,8 @@ static void refused_texts(const noughtelm_auction *board)
 
 int main(void)
 {
-    const noughtelm_auction board = by_calls();
-    const noughtelm_auction before = board;
+    const noughtelm_board board = by_calls();
+    const noughtelm_board before = board;
     by_buffers(&board);
     cells_of_the_board(&board);
     read_out(&board);

@@ -44,8 +44,8 @@ static inline void bytes_are(const char *what, const void *got, const void *expe
 }
 
 /* Every byte of two boards is the same; there is nothing between the fields. */
-static inline void board_is(const char *what, const noughtelm_auction *got,
-                            const noughtelm_auction *expected)
+static inline void board_is(const char *what, const noughtelm_board *got,
+                            const noughtelm_board *expected)
 {
     bytes_are(what, got, expected, sizeof *got);
 }
@@ -96,18 +96,29 @@ static inline int all_checks(void)
 /* The bytes of a string, without the 0 at its end: a list and its number of cells. */
 #define TEXT(string) (const uint8_t *)(string), sizeof(string) - 1
 
+/* An opening of items with one place each. */
+static inline noughtelm_answer open_ones(uint64_t items, uint64_t p, uint64_t q)
+{
+    uint64_t counts[NOUGHTELM_MAX_ITEMS];
+    const size_t cells = items < NOUGHTELM_MAX_ITEMS ? (size_t)items : NOUGHTELM_MAX_ITEMS;
+    for (size_t i = 0; i < cells; i++) {
+        counts[i] = 1;
+    }
+    return noughtelm_open(items, p, q, counts, cells);
+}
+
 /* The board of case 1, by calls. */
-static inline noughtelm_auction case_1(void)
+static inline noughtelm_board case_1(void)
 {
     const noughtelm_edge first[] = {{1, 100}, {2, 60}};
     const noughtelm_edge second[] = {{1, 90}};
-    noughtelm_auction board = noughtelm_open(2, 1, 10).board;
+    noughtelm_board board = open_ones(2, 1, 10).board;
     board = noughtelm_arrive(board, first, 2).board;
     return noughtelm_arrive(board, second, 1).board;
 }
 
 /* A board with one item less. */
-static inline noughtelm_auction without(noughtelm_auction board, uint64_t item)
+static inline noughtelm_board without(noughtelm_board board, uint64_t item)
 {
     return noughtelm_withdraw(board, &item, 1).board;
 }

@@ -8,7 +8,7 @@ typedef struct plan {
 } plan;
 
 /* These plans stand in order: every one of them beside every other. */
-static void in_order(const char *what, noughtelm_auction board, const plan *plans, size_t count)
+static void in_order(const char *what, noughtelm_board board, const plan *plans, size_t count)
 {
     for (size_t i = 0; i < count; i++) {
         for (size_t j = 0; j < count; j++) {
@@ -33,7 +33,7 @@ static void by_cells(void)
     const plan plans[] = {{{1, 2}, 100}, {{2, 1}, 100}, {{0, 1}, 50}, {{0, 2}, 50},
                           {{1, 0}, 50},  {{2, 0}, 50},  {{0, 0}, 0}};
     const uint64_t shared[] = {0, 1, 2};
-    noughtelm_auction board = noughtelm_arrive(noughtelm_open(2, 1, 10).board, edges, 2).board;
+    noughtelm_board board = noughtelm_arrive(open_ones(2, 1, 10).board, edges, 2).board;
     board = noughtelm_arrive(board, edges, 2).board;
     in_order("by cells", board, plans, 7);
     /* Plans are only read: two may share their cells. */
@@ -48,7 +48,7 @@ static void ends(void)
 {
     const noughtelm_edge last[] = {{64, NOUGHTELM_MAX_WEIGHT - 1}};
     uint64_t all[65] = {0}, less[65] = {0}, none[65] = {0}, kept[65] = {0};
-    noughtelm_auction board = noughtelm_open(64, 1, 2).board;
+    noughtelm_board board = open_ones(64, 1, 2).board;
     for (uint64_t i = 0; i < 64; i++) {
         const noughtelm_edge edges[] = {{i + 1, NOUGHTELM_MAX_WEIGHT}};
         board = noughtelm_arrive(board, edges, 1).board;
@@ -73,10 +73,10 @@ typedef struct lent {
 } lent;
 
 /* Three bidders; bidders 1 and 3 want item 2, bidder 2 item 3, and item 1 is gone. */
-static noughtelm_auction refusing(void)
+static noughtelm_board refusing(void)
 {
     const noughtelm_edge edges[][2] = {{{1, 9}, {2, 5}}, {{1, 9}, {3, 5}}, {{1, 9}, {2, 5}}};
-    noughtelm_auction board = noughtelm_open(3, 1, 10).board;
+    noughtelm_board board = open_ones(3, 1, 10).board;
     for (int i = 0; i < 3; i++) {
         board = noughtelm_arrive(board, edges[i], 2).board;
     }
@@ -101,8 +101,8 @@ static void refused(void)
         {{0, 0, UINT64_MAX}, 3, 10, 3},
     };
     const size_t count = sizeof lists / sizeof *lists;
-    const noughtelm_auction board = refusing();
-    noughtelm_auction spoilt = board;
+    const noughtelm_board board = refusing();
+    noughtelm_board spoilt = board;
     spoilt.state.gain[0]++;
     for (size_t i = 0; i < count; i++) {
         for (size_t j = 0; j < count; j++) {
@@ -122,7 +122,7 @@ static void refused(void)
 static void no_cells(void)
 {
     const uint64_t cells[] = {0, 0, 0};
-    const noughtelm_auction empty = noughtelm_open(1, 1, 2).board, board = refusing();
+    const noughtelm_board empty = open_ones(1, 1, 2).board, board = refusing();
     comparison_is("no pointer", noughtelm_compare(empty, NULL, 0, NULL, 0), 0, 0, 0, NOUGHTELM_SAME);
     comparison_is("any pointer", noughtelm_compare(empty, cells, 0, NULL, 0), 0, 0, 0, NOUGHTELM_SAME);
     comparison_is("a cell, no bidder", noughtelm_compare(empty, cells, 1, NULL, 0), 9, 0, 0, 0);

@@ -2,9 +2,9 @@
 #include "checks.h"
 
 /* Every call that takes a board answers 13 to this one, and keeps it and the lists. */
-static void spoilt(const char *what, noughtelm_auction board)
+static void spoilt(const char *what, noughtelm_board board)
 {
-    const noughtelm_auction before = board;
+    const noughtelm_board before = board;
     const noughtelm_edge edges[] = {{1, 5}};
     const noughtelm_edge_buffer buffer = {{1}, {5}, 1};
     const uint64_t items[] = {1, 2, 64};
@@ -39,10 +39,10 @@ static void spoilt(const char *what, noughtelm_auction board)
 int main(void)
 {
     const uint8_t bytes[] = {2, 3, 4, 127, 128, 254, 255};
-    const noughtelm_auction board = case_1();
-    noughtelm_auction other = without(board, 1);
+    const noughtelm_board board = case_1();
+    noughtelm_board other = without(board, 1);
     for (size_t i = 0; i < sizeof bytes; i++) {
-        noughtelm_auction unused = board, used = board, gone = other;
+        noughtelm_board unused = board, used = board, gone = other;
         unused.market.withdrawn[63] = bytes[i];
         spoilt("withdrawn[63]", unused);
         used.market.withdrawn[1] = bytes[i];

@@ -5,12 +5,12 @@
  * Five items at 1/2. Bidders 1, 2 and 3 hold items 2, 1 and 3; all of them want item 3, and
  * bidders 1 and 3 item 4, bidder 3 item 5.
  */
-static noughtelm_auction board(void)
+static noughtelm_board board(void)
 {
     const noughtelm_edge first[] = {{2, 100}, {3, 50}, {4, 40}};
     const noughtelm_edge second[] = {{1, 200}, {3, 100}};
     const noughtelm_edge third[] = {{3, 10}, {4, 8}, {5, 5}};
-    noughtelm_auction board = noughtelm_open(5, 1, 2).board;
+    noughtelm_board board = open_ones(5, 1, 2).board;
     board = noughtelm_arrive(board, first, 3).board;
     board = noughtelm_arrive(board, second, 2).board;
     return noughtelm_arrive(board, third, 3).board;
@@ -39,14 +39,14 @@ static void several(void)
 static void empty(void)
 {
     const uint64_t item = 1;
-    const noughtelm_auction before = board();
+    const noughtelm_board before = board();
     const noughtelm_answer none = noughtelm_withdraw(before, NULL, 0);
     told_is("empty", told_of(&none), 0, 0, 0);
     board_is("empty, the board", &none.board, &before);
     const noughtelm_answer other = noughtelm_withdraw(before, &item, 0);
     told_is("empty, a pointer", told_of(&other), 0, 0, 0);
     board_is("empty, a pointer, the board", &other.board, &before);
-    noughtelm_auction spoilt = before;
+    noughtelm_board spoilt = before;
     spoilt.state.gain[0]++;
     const noughtelm_answer refused = noughtelm_withdraw(spoilt, NULL, 0);
     told_is("empty, 13", told_of(&refused), 13, 0, 0);
@@ -58,7 +58,7 @@ static void all(void)
 {
     const noughtelm_edge edges[] = {{1, 5}, {64, 9}};
     uint64_t items[NOUGHTELM_MAX_ITEMS + 1], expected[NOUGHTELM_MAX_ITEMS + 1];
-    const noughtelm_auction full = noughtelm_arrive(noughtelm_open(64, 1, 10).board, edges, 2).board;
+    const noughtelm_board full = noughtelm_arrive(open_ones(64, 1, 10).board, edges, 2).board;
     for (uint64_t i = 0; i <= NOUGHTELM_MAX_ITEMS; i++) {
         items[i] = expected[i] = i + 1;
     }

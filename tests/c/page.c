@@ -5,7 +5,7 @@
 #define PAGE HEADING "  1  2      60        600\n  2  1      90        420\n  3 --       0          0\n"
 #define BYTES (sizeof(PAGE) - 1)
 
-static noughtelm_auction board(void)
+static noughtelm_board board(void)
 {
     return noughtelm_replay(TEXT(CASE_1 "A\n")).board;
 }
@@ -17,7 +17,7 @@ static void writing(void)
     memset(kept, 7, sizeof kept);
     told_is("8, no cell", noughtelm_write_page(board(), NULL, 0), 8, 0, 0);
     told_is("8, a cell too few", noughtelm_write_page(board(), page, BYTES - 1), 8, 0, 0);
-    noughtelm_auction spoilt = board();
+    noughtelm_board spoilt = board();
     spoilt.state.gain[2] = 1;
     told_is("13 before 8", noughtelm_write_page(spoilt, page, 0), 13, 0, 0);
     told_is("13", noughtelm_write_page(spoilt, page, sizeof page), 13, 0, 0);
@@ -25,7 +25,7 @@ static void writing(void)
     told_is("written", noughtelm_write_page(board(), page, sizeof page), 0, 0, BYTES);
     bytes_are("the page", page, PAGE, BYTES);
     bytes_are("further cells", page + BYTES, kept, sizeof page - BYTES);
-    told_is("no bidder", noughtelm_write_page(noughtelm_open(1, 1, 2).board, page, 26), 0, 0, 26);
+    told_is("no bidder", noughtelm_write_page(open_ones(1, 1, 2).board, page, 26), 0, 0, 26);
     bytes_are("the heading alone", page, HEADING, 26);
 }
 

@@ -3,16 +3,16 @@
 
 static void opening(void)
 {
-    const uint64_t counts[] = {0, 65, UINT64_MAX};
+    const uint64_t items[] = {0, 65, UINT64_MAX};
     const uint64_t slacks[][2] = {{0, 10}, {5, 5}, {1, 1001}, {UINT64_MAX, UINT64_MAX}};
-    const noughtelm_auction zeros = {{0, {0, 0}, 0, {0}}, {{0}, {0}, {0}}, {0}};
+    const noughtelm_board zeros = {{0, {0}}, {0, {0, 0}, 0, {0}}, {{0}, {0}, {0}}, {0}};
     for (int i = 0; i < 3; i++) {
-        const noughtelm_answer answer = noughtelm_open(counts[i], 5, 5);
+        const noughtelm_answer answer = noughtelm_open(items[i], 5, 5, NULL, 0);
         told_is("1", told_of(&answer), 1, 0, 0);
         board_is("1, the board", &answer.board, &zeros);
     }
     for (int i = 0; i < 4; i++) {
-        const noughtelm_answer answer = noughtelm_open(1, slacks[i][0], slacks[i][1]);
+        const noughtelm_answer answer = noughtelm_open(1, slacks[i][0], slacks[i][1], NULL, 0);
         told_is("2", told_of(&answer), 2, 0, 0);
         board_is("2, the board", &answer.board, &zeros);
     }
@@ -26,7 +26,7 @@ static void opening(void)
 static void arrival(const char *what, const noughtelm_edge *edges, size_t count, uint64_t number,
                     uint64_t place)
 {
-    const noughtelm_auction board = without(case_1(), 2);
+    const noughtelm_board board = without(case_1(), 2);
     const noughtelm_answer answer = noughtelm_arrive(board, edges, count);
     told_is(what, told_of(&answer), number, place, 0);
     board_is(what, &answer.board, &board);
@@ -49,7 +49,7 @@ static void arrivals(void)
 static void withdrawal(const char *what, const uint64_t *items, size_t count, uint64_t number,
                        uint64_t place)
 {
-    const noughtelm_auction board = without(noughtelm_open(5, 1, 10).board, 2);
+    const noughtelm_board board = without(open_ones(5, 1, 10).board, 2);
     uint64_t lent[4];
     memcpy(lent, items, count * sizeof *items);
     const noughtelm_answer answer = noughtelm_withdraw(board, lent, count);
@@ -80,7 +80,7 @@ static void withdrawals(void)
 static void full(void)
 {
     const noughtelm_edge unknown[] = {{9, 5}};
-    noughtelm_answer answer = noughtelm_open(1, 1, 2);
+    noughtelm_answer answer = open_ones(1, 1, 2);
     for (int i = 0; i < NOUGHTELM_MAX_BIDDERS; i++) {
         answer = noughtelm_arrive(answer.board, NULL, 0);
         told_is("an empty arrival", told_of(&answer), 0, 0, 0);
@@ -99,8 +99,8 @@ static void claim(const char *what, const uint64_t *lists, uint64_t number, uint
 
 static void checks(void)
 {
-    const noughtelm_auction board = case_1();
-    const noughtelm_auction gone = without(board, 1);
+    const noughtelm_board board = case_1();
+    const noughtelm_board gone = without(board, 1);
     const uint64_t right[] = {2, 1, 40, 0, 60, 50};
     const uint64_t unknown[] = {3, 1, 40, 0, 60, 50}, twice[] = {1, 1, 40, 0, 60, 50};
     const uint64_t edgeless[] = {0, 2, 40, 0, 60, 50};
@@ -149,7 +149,14 @@ static void texts(void)
     text("6", TEXT("K\t2\t1\t10\nA\t1\t0\n"), 6, 2);
     text("7", TEXT("K\t2\t1\t10\nA\t2\t5\t1\t5\n"), 7, 2);
     text("7, a list", TEXT(CASE_1 "W\t1\t1\n"), 7, 4);
+    text("4, places", TEXT("K\t2\t1\t10\nP\t3\t9\n"), 4, 2);
+    text("7, places", TEXT("K\t2\t1\t10\nP\t2\t2\nP\t2\t9\n"), 7, 3);
+    text("16", TEXT("K\t2\t1\t10\nP\t1\t9\n"), 16, 2);
+    text("16 of 0", TEXT("K\t2\t1\t10\nP\t1\t8\nP\t2\t0\n"), 16, 3);
+    text("16, over 64 in all", TEXT("K\t58\t1\t10\nP\t58\t8\nA\t1\n"), 16, 1);
     text("14", TEXT("K\t2\t1\t10\nA\t1\n"), 14, 2);
+    text("14, places without their number", TEXT("K\t2\t1\t10\nP\t1\n"), 14, 2);
+    text("14, places after an arrival", TEXT(CASE_1 "P\t1\t2\n"), 14, 4);
     text("14, no byte 10", TEXT("K\t2\t1\t10\nA"), 14, 2);
     text("14, an empty list", TEXT(CASE_1 "W\n"), 14, 4);
     text("14, empty", NULL, 0, 14, 1);

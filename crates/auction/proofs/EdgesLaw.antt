@@ -1,21 +1,21 @@
 -- What it says that an arrival's edges, or a withdrawal's items, are served; and the row that the edges make.
-use mathlib.Core.Path.{_≡_, refl, ap}
-use mathlib.Core.Bool.{false}
+use mathlib.Core.Path.{_≡_, refl, ap, _∙_}
+use mathlib.Core.Bool.{Bool, false}
 use mathlib.Core.List.{List, [], _∷_}
-use Prim.Native.Nat.{ℕ, zero, suc, _-_, _≤_, _<_}
-use native.Mathlib.Nat.{le-refl}
+use Prim.Native.Nat.{ℕ, zero, suc, _-_, _*_, _≤_, _<_}
+use native.Mathlib.Nat.{le-refl, mul-zero, mul-one}
 use native.Mathlib.Omega.{arith}
 use lib.ListN.{length, getD, set, length-set}
 use lib.Seq.{getD-set-same, getD-set-other}
 use borrow.Author.Tests.{leb-false, not-false}
-use Rattle.duality.specs.Sums.{upd}
+use Rattle.duality.specs.Sums.{sumTo, upd}
 use Rattle.duality.proofs.Sums.{sumTo-eq, sumTo-zero, sumTo-upd, upd-all}
 use Rattle.duality.specs.Lists.{cells}
-use Rattle.board.specs.declared.record.Auction.{Auction}
+use Rattle.supply.specs.declared.record.Board.{Board}
 use Rattle.board.specs.declared.record.Edge.{Edge}
 use Rattle.refusals.specs.declared.Verdict.the-variants.{Served}
 use Rattle.board.specs.Limits.{maxItems, maxBidders, maxWeight}
-use Rattle.board.specs.Cells.{flagAt}
+use Rattle.supply.specs.ByItem.{withdrawnAt}
 use Rattle.bidding.specs.Potential.{one}
 use Rattle.refusals.specs.Demand1.{firstOf}
 use Rattle.board.specs.Ranges.{Within}
@@ -28,22 +28,21 @@ use Rattle.board.proofs.Tests.{within-decides}
 use Rattle.refusals.proofs.Verdicts.{served-next}
 use Rattle.refusals.proofs.Each.{each-served}
 use Rattle.auction.proofs.ItemsLaw.{ItemsAccepted, ItemServed, accepted, rises, served-items}
-use Rattle.bidding.proofs.Potentials.{rowCount}
 
 -- ---- Served checks
 
 -- Edges that are served: each at an item of the board that is not withdrawn, its weight within limits, and items rising
-pub record EdgesAccepted (items : ℕ) (withdrawn : List ℕ) (item weight : ℕ → ℕ) (n : ℕ) : Type 0 where
+pub record EdgesAccepted (items : ℕ) (withdrawn : ℕ → Bool) (item weight : ℕ → ℕ) (n : ℕ) : Type 0 where
   pub known : (i : ℕ) → i < n → Within 1 items (item i)
-  pub here : (i : ℕ) → i < n → flagAt withdrawn (item i - 1) ≡ false
+  pub here : (i : ℕ) → i < n → withdrawn (item i - 1) ≡ false
   pub weighed : (i : ℕ) → i < n → Within 1 maxWeight (weight i)
   pub rising : (i : ℕ) → suc i < n → item i < item (suc i)
 
 -- Their items
-pub edges-items : {items : ℕ} {withdrawn : List ℕ} {item weight : ℕ → ℕ} {n : ℕ} → EdgesAccepted items withdrawn item weight n → ItemsAccepted items withdrawn item n
+pub edges-items : {items : ℕ} {withdrawn : ℕ → Bool} {item weight : ℕ → ℕ} {n : ℕ} → EdgesAccepted items withdrawn item weight n → ItemsAccepted items withdrawn item n
 edges-items a = record { known = a .known; here = a .here; rising = a .rising }
 
-module _ (items : ℕ) (withdrawn : List ℕ) (item weight : ℕ → ℕ) where
+module _ (items : ℕ) (withdrawn : ℕ → Bool) (item weight : ℕ → ℕ) where
   -- What is served of one edge
   served-edge : (i : ℕ) → firstOf (edgeChecks items withdrawn item weight i) ≡ Served → ItemServed items withdrawn item i × Within 1 maxWeight (weight i)
   unfolding edgeChecks
@@ -63,15 +62,15 @@ module _ (items : ℕ) (withdrawn : List ℕ) (item weight : ℕ → ℕ) where
       let a = accepted items withdrawn item n (λ i l. each i l .0) in
       record { known = a .known; here = a .here; weighed = λ i l. each i l .1; rising = a .rising }
 
-pub served-arrival : (b : Auction) (edges : List Edge) → firstOf (arriveRest b edges) ≡ Served →
-    (b .market .arrived < maxBidders) × EdgesAccepted (b .market .items) (b .market .withdrawn) (itemIn edges) (weightIn edges) (length edges)
+pub served-arrival : (b : Board) (edges : List Edge) → firstOf (arriveRest b edges) ≡ Served →
+    (b .market .arrived < maxBidders) × EdgesAccepted (b .items .count) (withdrawnAt b) (itemIn edges) (weightIn edges) (length edges)
 unfolding arriveRest
-served-arrival b edges e = let u = served-next _ _ e in (leb-false _ _ (u .0), served-edges (b .market .items) (b .market .withdrawn) _ _ _ (u .1))
+served-arrival b edges e = let u = served-next _ _ e in (leb-false _ _ (u .0), served-edges (b .items .count) (withdrawnAt b) _ _ _ (u .1))
 
-pub served-withdrawal : (b : Auction) (items : List ℕ) → firstOf (withdrawRest b items) ≡ Served →
-    ItemsAccepted (b .market .items) (b .market .withdrawn) (cells items) (length items)
+pub served-withdrawal : (b : Board) (items : List ℕ) → firstOf (withdrawRest b items) ≡ Served →
+    ItemsAccepted (b .items .count) (withdrawnAt b) (cells items) (length items)
 unfolding withdrawRest
-served-withdrawal b items e = served-items (b .market .items) (b .market .withdrawn) (cells items) (length items) e
+served-withdrawal b items e = served-items (b .items .count) (withdrawnAt b) (cells items) (length items) e
 
 -- ---- The row that the edges make
 
@@ -99,7 +98,7 @@ module _ (item weight : ℕ → ℕ) where
   row-length zero = refl
   row-length (suc n) = simp length-set (row-length n)
 
-module _ {items : ℕ} {withdrawn : List ℕ} {item weight : ℕ → ℕ} where
+module _ {items : ℕ} {withdrawn : ℕ → Bool} {item weight : ℕ → ℕ} where
   pub row-fits : {n : ℕ} → EdgesAccepted items withdrawn item weight n → RowFits items (rowTo item weight n)
   row-fits {n} a =
       record {
@@ -112,25 +111,28 @@ module _ {items : ℕ} {withdrawn : List ℕ} {item weight : ℕ → ℕ} where
   pub fewer : {n : ℕ} → EdgesAccepted items withdrawn item weight (suc n) → EdgesAccepted items withdrawn item weight n
   fewer a = record { known = λ i l. a .known i (omega arith); here = λ i l. a .here i (omega arith); weighed = λ i l. a .weighed i (omega arith); rising = λ i l. a .rising i (omega arith) }
 
-  -- It has an edge for each
-  pub row-count : items ≤ maxItems → (n : ℕ) → EdgesAccepted items withdrawn item weight n → rowCount items (rowTo item weight n) ≡ n
+  -- It has an edge for each: what f says of items, added up over its edges
+  pub row-weighted : (f : ℕ → ℕ) → items ≤ maxItems → (n : ℕ) → EdgesAccepted items withdrawn item weight n →
+      sumTo items (λ k. f k * one (getD (rowTo item weight n) k 0)) ≡ sumTo n (λ i. f (item i - 1))
   unfolding rowTo
-  row-count h zero a = sumTo-zero items _ (λ k l. rw (blank {A = ℕ} maxItems k 0))
-  row-count h (suc n) a =
+  row-weighted f h zero a = sumTo-zero items _ (λ k l. rw (blank {A = ℕ} maxItems k 0) (mul-zero (f k)))
+  row-weighted f h (suc n) a =
       let r = rowTo item weight n in
       let k = item n - 1 in
       let known = a .known n (omega arith) in
-      let count : ℕ → ℕ = λ j. one (getD r j 0) in
-      let bare : count k ≡ 0 = ap one (row-all item weight (λ j v. k ≤ j → v ≡ 0) n (λ j l. refl)
-      (λ i l m. absurd (omega (arith, rises (edges-items a) n (omega arith) i l, a .known i (omega arith) .low))) k (le-refl k)) in
+      let count : ℕ → ℕ = λ j. f j * one (getD r j 0) in
+      let bare : count k ≡ 0 = ap (λ v. f k * v) (ap one (row-all item weight (λ j v. k ≤ j → v ≡ 0) n (λ j l. refl)
+      (λ i l m. absurd (omega (arith, rises (edges-items a) n (omega arith) i l, a .known i (omega arith) .low))) k (le-refl k))) ∙ mul-zero (f k) in
+      let new : f k * one (weight n) ≡ f k = ap (λ v. f k * v) (one-is (weight n) (a .weighed n (omega arith) .low)) ∙ mul-one (f k) in
       omega (
         arith,
-        sumTo-eq items (λ j. one (getD (set r k (weight n)) j 0)) (upd k (one (weight n)) count)
-            (λ j l. upd-all (λ j v. one (getD (set r k (weight n)) j 0) ≡ v) k (one (weight n)) count
-            (ap one (getD-set-same r k (weight n) 0 (omega (arith, row-length item weight n))))
-            (λ j ne. ap one (getD-set-other r k j (weight n) 0 ne))
+        sumTo-eq items (λ j. f j * one (getD (set r k (weight n)) j 0)) (upd k (f k * one (weight n)) count)
+            (λ j l. upd-all (λ j v. f j * one (getD (set r k (weight n)) j 0) ≡ v) k (f k * one (weight n)) count
+            (ap (λ v. f k * one v) (getD-set-same r k (weight n) 0 (omega (arith, row-length item weight n))))
+            (λ j ne. ap (λ v. f j * one v) (getD-set-other r k j (weight n) 0 ne))
             j),
-        sumTo-upd items k (one (weight n)) count (omega arith),
-        one-is (weight n) (a .weighed n (omega arith) .low),
-        row-count h n (fewer a),
+        sumTo-upd items k (f k * one (weight n)) count (omega arith),
+        new,
+        bare,
+        row-weighted f h n (fewer a),
       )

@@ -8,16 +8,17 @@ use lib.ListN.{length, take}
 use lib.Dec.{leb, ltb}
 use lib.Seq.{length-take-le, getD-take, take-all}
 use borrow.Author.Tests.{leb-true, leb-false, ltb-true, ltb-false}
-use Rattle.board.specs.declared.record.Auction.{Auction}
+use Rattle.supply.specs.declared.record.Board.{Board}
 use Rattle.board.specs.declared.record.Edge.{Edge}
 use Rattle.board.specs.Limits.{maxBidders, maxEdges}
 use Rattle.board.specs.Cells.{edge}
-use Rattle.board.specs.SoundTest.{soundTest}
+use Rattle.supply.specs.ByItem.{withdrawnAt}
+use Rattle.supply.specs.SoundTest.{soundTest}
 use Rattle.refusals.specs.Demand1.{firstOf}
 use Rattle.auction.specs.Edges.{itemIn, weightIn, edgesChecks}
 use Rattle.auction.specs.Arrive.{arriveOf}
 use Rattle.auction.specs.EnoughEdges.{EnoughEdges}
-use Rattle.board.proofs.SoundLaw.{sound-decides}
+use Rattle.supply.proofs.SoundLaw.{sound-decides}
 use Rattle.refusals.proofs.Verdicts.{unserved}
 use Rattle.refusals.proofs.Each.{each-first}
 use Rattle.auction.proofs.ItemsLaw.{too-many}
@@ -25,13 +26,12 @@ use Rattle.auction.proofs.EdgesLaw.{edges-items, served-edges}
 use Rattle.auction.proofs.CallVerdicts.{arrive-spoilt, arrive-full, arrive-refused}
 use Rattle.auction.proofs.Buffers.{edges-as}
 
-module _ (b : Auction) (edges : List Edge) where
+module _ (b : Board) (edges : List Edge) where
   by-first : soundTest b ≡ true → b .market .arrived < maxBidders → maxEdges < length edges → arriveOf b edges ≡ arriveOf b (take maxEdges edges)
   by-first s l h =
-      let m = b .market in
-      let (r, e) = unserved (edgesChecks (m .items) (m .withdrawn) (itemIn edges) (weightIn edges) 0 maxEdges)
-      (λ e. too-many (edges-items (served-edges _ _ _ _ _ e)) (sound-decides b .sound s .items .1) (omega arith)) in
-      let same = edges-as (m .items) (m .withdrawn) (itemIn (take maxEdges edges)) (itemIn edges) (weightIn (take maxEdges edges)) (weightIn edges) maxEdges
+      let (r, e) = unserved (edgesChecks (b .items .count) (withdrawnAt b) (itemIn edges) (weightIn edges) 0 maxEdges)
+      (λ e. too-many (edges-items (served-edges _ _ _ _ _ e)) (sound-decides b .sound s .laid .count .high) (omega arith)) in
+      let same = edges-as (b .items .count) (withdrawnAt b) (itemIn (take maxEdges edges)) (itemIn edges) (weightIn (take maxEdges edges)) (weightIn edges) maxEdges
       (λ j k. ap (λ (e : Edge). e .item) (getD-take maxEdges edges j (edge 0 0) k))
       (λ j k. ap (λ (e : Edge). e .weight .0) (getD-take maxEdges edges j (edge 0 0) k)) in
       arrive-refused b edges s l r (each-first _ maxEdges (length edges) r (omega arith) e)

@@ -9,24 +9,24 @@ use lib.Dec.{ltb}
 use lib.Seq.{length-take-le, getD-take, take-all}
 use borrow.Author.Tests.{ltb-true, ltb-false}
 use Rattle.duality.specs.Lists.{cells}
-use Rattle.board.specs.declared.record.Auction.{Auction}
+use Rattle.supply.specs.declared.record.Board.{Board}
 use Rattle.board.specs.Limits.{maxEdges}
-use Rattle.board.specs.SoundTest.{soundTest}
-use Rattle.board.proofs.SoundLaw.{sound-decides}
+use Rattle.supply.specs.ByItem.{withdrawnAt}
+use Rattle.supply.specs.SoundTest.{soundTest}
+use Rattle.supply.proofs.SoundLaw.{sound-decides}
 use Rattle.refusals.specs.Demand1.{firstOf}
 use Rattle.auction.specs.Withdraw.{withdrawOf}
 use Rattle.auction.specs.EnoughItems.{EnoughItems}
 use Rattle.auction.proofs.CallVerdicts.{withdraw-spoilt, withdraw-refused}
 use Rattle.auction.proofs.ItemsLaw.{first-refused, items-first, items-as}
 
-module _ (b : Auction) (items : List ℕ) where
+module _ (b : Board) (items : List ℕ) where
   by-first : soundTest b ≡ true → maxEdges < length items → withdrawOf b items ≡ withdrawOf b (take maxEdges items)
   by-first s h =
-      let m = b .market in
-      let few = sound-decides b .sound s .items .1 in
-      let (r, e) = first-refused (m .items) (m .withdrawn) (cells items) few in
-      let same = items-as (m .items) (m .withdrawn) (cells (take maxEdges items)) (cells items) maxEdges (λ j k. getD-take maxEdges items j 0 k) in
-      withdraw-refused b items s r (items-first (m .items) (m .withdrawn) (cells items) few (length items) h ∙ e)
+      let few = sound-decides b .sound s .laid .count .high in
+      let (r, e) = first-refused (b .items .count) (withdrawnAt b) (cells items) few in
+      let same = items-as (b .items .count) (withdrawnAt b) (cells (take maxEdges items)) (cells items) maxEdges (λ j k. getD-take maxEdges items j 0 k) in
+      withdraw-refused b items s r (items-first (b .items .count) (withdrawnAt b) (cells items) few (length items) h ∙ e)
       ∙ sym (withdraw-refused b (take maxEdges items) s r (rw (length-take-le maxEdges items (omega arith)) (ap firstOf same ∙ e)))
 
   by-length : soundTest b ≡ true → (t : Bool) → ltb maxEdges (length items) ≡ t → withdrawOf b items ≡ withdrawOf b (take maxEdges items)

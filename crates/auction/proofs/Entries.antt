@@ -1,8 +1,9 @@
--- An accepted list is the new bidder's edges, and a chain of bids leaves every bidder's edges as they were.
-use mathlib.Core.Path.{_≡_, refl, ap, ap₂, _∙_}
+-- An accepted list is the new bidder's edges, and chains of bids leave every bidder's edges as they were.
+use mathlib.Core.Path.{_≡_, refl, ap, _∙_}
+use mathlib.Core.Bool.{Bool}
 use mathlib.Core.List.{List, [], _∷_, _++_, append-nil}
 use Prim.Native.Nat.{ℕ, zero, suc, _+_, _-_, _≤_, _<_}
-use native.Mathlib.Nat.{le-refl, mul-le-mul}
+use native.Mathlib.Nat.{le-refl}
 use native.Mathlib.Omega.{arith}
 use lib.ListN.{length, getD, set, take}
 use lib.Seq.{getD-set-same, getD-set-other, take-suc, take-all}
@@ -11,17 +12,21 @@ use Rattle.board.specs.declared.record.Auction.{Auction}
 use Rattle.board.specs.declared.record.Edge.{Edge}
 use Rattle.board.specs.Limits.{maxItems, maxBidders}
 use Rattle.board.specs.Cells.{edge, rowIn}
-use Rattle.board.specs.Live.{edgesIn, edgesOf}
-use Rattle.board.specs.Sound.{Formed}
-use Rattle.bidding.specs.Rule.{Chain, stays, takes, displaces, placedAt, displaced}
-use Rattle.bidding.specs.Moves.{entered}
-use Rattle.bidding.specs.Withdrawals.{Chains, ended, next}
-use Rattle.bidding.specs.WithdrawalLaws.{AllGone}
+use Rattle.board.specs.Live.{edgesIn}
 use Rattle.board.proofs.Filling.{blank}
-use Rattle.board.proofs.Filed.{other-row, new-row}
+use Rattle.board.proofs.Filed.{other-row}
+use Rattle.supply.specs.declared.record.Board.{Board}
+use Rattle.supply.specs.declared.record.Items.{Items}
+use Rattle.supply.specs.Board.{onItems, startIn}
+use Rattle.supply.specs.ByItem.{edgesTo, edgesOf}
+use Rattle.supply.specs.Spread.{spreadRow}
+use Rattle.supply.specs.Sound.{Sound}
+use Rattle.supply.proofs.Spreading.{row-length as spread-length}
+use Rattle.bidding.specs.Moves.{entered}
 use Rattle.auction.specs.Edges.{itemIn, weightIn, rowTo}
 use Rattle.auction.proofs.EdgesLaw.{EdgesAccepted, edges-items, row-all, row-length, fewer}
 use Rattle.auction.proofs.ItemsLaw.{rises}
+use Rattle.auction.proofs.Lasting.{first-below, first-owner, joinedOn, new-weight}
 
 -- ---- The edges of a row
 
@@ -56,7 +61,7 @@ abbrev firstEdges : (ℕ → ℕ) → (ℕ → ℕ) → ℕ → List Edge
 firstEdges item weight zero = []
 firstEdges item weight (suc n) = firstEdges item weight n ++ (edge (item n) (weight n) ∷ [])
 
-module _ {items : ℕ} {withdrawn : List ℕ} {item weight : ℕ → ℕ} (fit : items ≤ maxItems) where
+module _ {items : ℕ} {withdrawn : ℕ → Bool} {item weight : ℕ → ℕ} (fit : items ≤ maxItems) where
   row-edges : (n : ℕ) → EdgesAccepted items withdrawn item weight n → (m : ℕ) → ((i : ℕ) → i < n → item i ≤ m) → edgesIn (rowTo item weight n) m ≡ firstEdges item weight n
   unfolding rowTo edgesIn
   row-edges zero a m l = let z : 0 + m ≡ m = omega arith in rw (← z) (edges-bare _ 0 m (λ k h. blank {A = ℕ} maxItems k 0))
@@ -78,7 +83,7 @@ first-edges : (edges : List Edge) (n : ℕ) → n ≤ length edges → firstEdge
 first-edges edges zero l = refl
 first-edges edges (suc n) l = rw (take-suc edges n (edge 0 0) (omega arith), first-edges edges n (omega arith))
 
-pub accepted-edges : {items : ℕ} {withdrawn : List ℕ} (edges : List Edge) → items ≤ maxItems →
+pub accepted-edges : {items : ℕ} {withdrawn : ℕ → Bool} (edges : List Edge) → items ≤ maxItems →
     EdgesAccepted items withdrawn (itemIn edges) (weightIn edges) (length edges) →
     edgesIn (rowTo (itemIn edges) (weightIn edges) (length edges)) items ≡ edges
 accepted-edges {items} edges fit a =
@@ -86,27 +91,32 @@ accepted-edges {items} edges fit a =
     ∙ first-edges edges (length edges) (le-refl _)
     ∙ take-all (length edges) edges (le-refl _)
 
--- ---- The board's edges, after each move
+-- ---- The board's edges, after each move. They are read by item, at the first place of each
 
-pub entered-edges : (b : Auction) (row : List ℕ) → length row ≡ maxItems → Formed b → b .market .arrived < maxBidders →
-    edgesOf (entered b row) (b .market .arrived) ≡ edgesIn row (b .market .items)
+edges-same : (w v : ℕ → ℕ) (m : ℕ) → ((k : ℕ) → k < m → w k ≡ v k) → edgesTo w m ≡ edgesTo v m
+unfolding edgesTo
+edges-same w v zero e = refl
+edges-same w v (suc m) e = rw (edges-same w v m (λ k l. e k (omega arith)), e m (omega arith))
+
+edges-in : (ws : List ℕ) (m : ℕ) → edgesTo (λ k. getD ws k 0) m ≡ edgesIn ws m
+unfolding edgesTo edgesIn
+edges-in ws zero = refl
+edges-in ws (suc m) = rw (edges-in ws m)
+
+-- The new bidder's are those of its row by item
+pub entered-edges : (b : Board) → Sound b → (row : List ℕ) → b .market .arrived < maxBidders →
+    edgesOf (joinedOn b row) (b .market .arrived) ≡ edgesIn row (b .items .count)
+entered-edges b h row l =
+    edges-same _ _ (b .items .count)
+    (λ k m. new-weight b h row l (startIn (b .items) k) (first-below b h k m) ∙ ap (λ j. getD row j 0) (first-owner b h k m))
+    ∙ edges-in row (b .items .count)
+
+pub entered-others : (b : Board) (row : List ℕ) (i : ℕ) → i < b .market .arrived → edgesOf (joinedOn b row) i ≡ edgesOf b i
 unfolding entered
-entered-edges b row n f l =
-    ap (λ r. edgesIn r (b .market .items)) (new-row (b .weights) row (b .market .arrived) n (omega (arith, f .rows, mul-le-mul l (le-refl maxItems))))
+entered-others b row i l =
+    ap (λ (r : List ℕ). edgesTo (λ k. getD r (startIn (b .items) k) 0) (b .items .count))
+    (other-row (b .weights) (spreadRow (b .items) row) (b .market .arrived) i (spread-length (b .items) row) (λ q. omega arith))
 
-pub entered-others : (b : Auction) (row : List ℕ) → length row ≡ maxItems → (i : ℕ) → i < b .market .arrived → edgesOf (entered b row) i ≡ edgesOf b i
-unfolding entered
-entered-others b row n i l = ap (λ r. edgesIn r (b .market .items)) (other-row (b .weights) row (b .market .arrived) i n (λ q. omega arith))
-
-pub chain-edges : {b c : Auction} {i n : ℕ} → Chain b i c n → (h : ℕ) → edgesOf c h ≡ edgesOf b h
-unfolding placedAt displaced
-chain-edges (stays e) h = refl
-chain-edges (takes e f) h = refl
-chain-edges (displaces e f r) h = chain-edges r h
-
-pub chains-edges : {b c : Auction} {xs : List ℕ} {n : ℕ} → Chains b xs c n → (h : ℕ) → edgesOf c h ≡ edgesOf b h
-chains-edges ended h = refl
-chains-edges (next r t) h = chains-edges t h ∙ chain-edges r h
-
-pub gone-edges : {b c : Auction} {item : ℕ → ℕ} {n : ℕ} → AllGone b item n c → (h : ℕ) → edgesOf c h ≡ edgesOf b h
-gone-edges g h = ap₂ (λ (w : List ℕ) (m : ℕ). edgesIn (rowIn w h) m) (g .weights) (g .items)
+-- They hang on the weights alone
+pub same-edges : (items : Items) (a c : Auction) → c .weights ≡ a .weights → (h : ℕ) → edgesOf (onItems items c) h ≡ edgesOf (onItems items a) h
+same-edges items a c e h = ap (λ (w : List ℕ). edgesTo (λ k. getD (rowIn w h) (startIn items k) 0) (items .count)) e

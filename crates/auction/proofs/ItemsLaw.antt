@@ -1,6 +1,6 @@
 -- A list of items, tested one by one: what it says that all are served, and how many decide.
 use mathlib.Core.Path.{_≡_, sym, _∙_}
-use mathlib.Core.Bool.{false}
+use mathlib.Core.Bool.{Bool, false}
 use mathlib.Core.List.{List}
 use Prim.Native.Nat.{ℕ, zero, suc, _-_, _≤_, _<_}
 use native.Mathlib.Omega.{arith}
@@ -9,7 +9,6 @@ use Rattle.duality.proofs.Below.{one-more}
 use Rattle.refusals.specs.declared.Refusal.{Refusal}
 use Rattle.refusals.specs.declared.Verdict.the-variants.{Served, Refused}
 use Rattle.board.specs.Limits.{maxItems, maxEdges}
-use Rattle.board.specs.Cells.{flagAt}
 use Rattle.refusals.specs.Demand1.{firstOf}
 use Rattle.board.specs.Ranges.{Within}
 use Rattle.auction.specs.Edges.{orderTest}
@@ -20,16 +19,16 @@ use Rattle.refusals.proofs.Each.{each-as, each-served, each-first}
 use Rattle.auction.proofs.EdgeTests.{order-as}
 
 -- Items that are served: each on the board and not withdrawn, and rising
-pub record ItemsAccepted (items : ℕ) (withdrawn : List ℕ) (item : ℕ → ℕ) (n : ℕ) : Type 0 where
+pub record ItemsAccepted (items : ℕ) (withdrawn : ℕ → Bool) (item : ℕ → ℕ) (n : ℕ) : Type 0 where
   pub known : (i : ℕ) → i < n → Within 1 items (item i)
-  pub here : (i : ℕ) → i < n → flagAt withdrawn (item i - 1) ≡ false
+  pub here : (i : ℕ) → i < n → withdrawn (item i - 1) ≡ false
   pub rising : (i : ℕ) → suc i < n → item i < item (suc i)
 
-module _ (items : ℕ) (withdrawn : List ℕ) (item : ℕ → ℕ) where
+module _ (items : ℕ) (withdrawn : ℕ → Bool) (item : ℕ → ℕ) where
   -- What is served of the item in cell i
   pub record ItemServed (i : ℕ) : Type 0 where
     pub known : Within 1 items (item i)
-    pub here : flagAt withdrawn (item i - 1) ≡ false
+    pub here : withdrawn (item i - 1) ≡ false
     pub ordered : orderTest item i ≡ false
 
   pub accepted : (n : ℕ) → ((i : ℕ) → i < n → ItemServed i) → ItemsAccepted items withdrawn item n
@@ -49,7 +48,7 @@ module _ (items : ℕ) (withdrawn : List ℕ) (item : ℕ → ℕ) where
 
 -- ---- Rising
 
-module _ {items : ℕ} {withdrawn : List ℕ} {item : ℕ → ℕ} {n : ℕ} (a : ItemsAccepted items withdrawn item n) where
+module _ {items : ℕ} {withdrawn : ℕ → Bool} {item : ℕ → ℕ} {n : ℕ} (a : ItemsAccepted items withdrawn item n) where
   -- An item is below each that comes after it
   pub rises : (j : ℕ) → j < n → (i : ℕ) → i < j → item i < item j
   rises zero h i l = absurd (omega arith)
@@ -66,7 +65,7 @@ module _ {items : ℕ} {withdrawn : List ℕ} {item : ℕ → ℕ} {n : ℕ} (a 
 
 -- ---- How many decide
 
-module _ (items : ℕ) (withdrawn : List ℕ) where
+module _ (items : ℕ) (withdrawn : ℕ → Bool) where
   pub items-as : (f g : ℕ → ℕ) (n : ℕ) → ((j : ℕ) → j < n → f j ≡ g j) → itemsChecks items withdrawn f 0 n ≡ itemsChecks items withdrawn g 0 n
   unfolding itemChecks
   items-as f g n e = each-as _ _ 0 n (λ j l. rw (e j (omega arith), order-as f g j (λ k m. e k (omega arith))))

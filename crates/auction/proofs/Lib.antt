@@ -14,6 +14,8 @@ pub mod Gathered
 pub mod Histories
 pub mod ItemVerdicts
 pub mod ItemsLaw
+pub mod Lasting
+pub mod Naming
 pub mod OneItem
 pub mod Opening
 pub mod ReadOuts

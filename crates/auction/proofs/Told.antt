@@ -5,11 +5,11 @@ use Rattle.refusals.specs.declared.Refusal.{Refusal}
 use Rattle.refusals.specs.declared.Told.{Told}
 use Rattle.refusals.specs.Told.{served, refused}
 use Rattle.refusals.proofs.Answers.{refused-apart, served-apart}
-use Rattle.board.specs.declared.opening.Opened.{Opened}
+use Rattle.supply.specs.declared.opening.Opened.{Opened}
 use Rattle.auction.specs.declared.arrive.Arrived.{Arrived}
 use Rattle.auction.specs.declared.withdraw.Withdrawn.{Withdrawn}
 use Rattle.auction.specs.declared.read_out.ReadOut.{ReadOut}
-use Rattle.board.specs.Opening.{openedTold}
+use Rattle.supply.specs.Opening.{openedTold}
 use Rattle.auction.specs.Arrive.{arrivedTold}
 use Rattle.auction.specs.Withdraw.{withdrawnTold}
 use Rattle.auction.specs.ReadOut.{readOutTold}

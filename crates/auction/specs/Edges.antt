@@ -8,7 +8,7 @@ use Rattle.board.specs.declared.record.Edge.{Edge}
 use Rattle.auction.specs.declared.edges.EdgeBuffer.{EdgeBuffer}
 use Rattle.refusals.specs.declared.Refusal.the-variants.{Unknown, Gone, Worth, Order}
 use Rattle.board.specs.Limits.{maxItems, maxWeight, maxEdges}
-use Rattle.board.specs.Cells.{edge, flagAt}
+use Rattle.board.specs.Cells.{edge}
 use Rattle.refusals.specs.Demand1.{Check, checkFor}
 use Rattle.refusals.specs.Each.{eachChecks}
 use Rattle.board.specs.Ranges.{withinTest}
@@ -25,19 +25,19 @@ unfoldable pub orderTest : (ℕ → ℕ) → ℕ → Bool
 orderTest item zero = false
 orderTest item (suc i) = leb (item (suc i)) (item i)
 
--- "entry by entry 4, 5, 6, 7": the checks of one edge. `item` and `weight` read the edges' cells
-unfoldable pub edgeChecks : ℕ → List ℕ → (ℕ → ℕ) → (ℕ → ℕ) → ℕ → List Check
-edgeChecks items withdrawn item weight i =
+-- "entry by entry 4, 5, 6, 7": the checks of one edge. `gone` says which items are withdrawn; `item` and `weight` read the edges' cells
+unfoldable pub edgeChecks : ℕ → (ℕ → Bool) → (ℕ → ℕ) → (ℕ → ℕ) → ℕ → List Check
+edgeChecks items gone item weight i =
     checkFor (Unknown (suc i)) (not (withinTest items (item i))) ∷
-    (checkFor (Gone (suc i)) (flagAt withdrawn (item i - 1)) ∷
+    (checkFor (Gone (suc i)) (gone (item i - 1)) ∷
     (checkFor (Worth (suc i)) (not (withinTest maxWeight (weight i))) ∷
     (checkFor (Order (suc i)) (orderTest item i) ∷ [])))
 
 -- Of n edges from cell i on
-abbrev pub edgesChecks : ℕ → List ℕ → (ℕ → ℕ) → (ℕ → ℕ) → ℕ → ℕ → List Check
-edgesChecks items withdrawn item weight i n = eachChecks (edgeChecks items withdrawn item weight) i n
+abbrev pub edgesChecks : ℕ → (ℕ → Bool) → (ℕ → ℕ) → (ℕ → ℕ) → ℕ → ℕ → List Check
+edgesChecks items gone item weight i n = eachChecks (edgeChecks items gone item weight) i n
 
--- The row that the first n edges make: each weight in its item's cell
+-- The row that the first n edges make, by item: each weight in its item's cell
 unfoldable pub rowTo : (ℕ → ℕ) → (ℕ → ℕ) → ℕ → List ℕ
 rowTo item weight zero = replicate maxItems 0
 rowTo item weight (suc i) = set (rowTo item weight i) (item i - 1) (weight i)

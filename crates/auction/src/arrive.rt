@@ -9,12 +9,16 @@ use board::record::Auction;
 use board::record::Edge;
 use board::record::Market;
 use board::record::State;
-use board::sound::is_sound_in;
 use refusals::Refusal;
 use refusals::Verdict;
+use supply::record::Board;
+use supply::record::Items;
+use supply::shape::starts_of;
+use supply::sound::is_sound_in;
+use supply::spread::spread_row;
 ghost use mathlib.Core.Path.{_≡_};
-ghost use Rattle.board.specs.Cells.{auction};
-ghost use Rattle.board.specs.Sound.{Sound};
+ghost use Rattle.supply.specs.Board.{board};
+ghost use Rattle.supply.specs.Sound.{Sound};
 ghost use Rattle.bidding.specs.Rule.{done};
 ghost use Rattle.auction.specs.Edges.{bufferEdges};
 ghost use Rattle.auction.specs.Arrive.{arrival, arriveOf};
@@ -26,7 +30,7 @@ pub enum Arrived {
 }
 
 pub struct Arrival {
-    pub auction: Auction,
+    pub board: Board,
     pub answer: Arrived,
 }
 
@@ -39,13 +43,14 @@ pub struct ArrivalIn {
 
 // The arrival at a sound board, by its parts.
 pub fn arrive_in(
+    items: Items,
     market: Market,
     weights: &mut [u32; Auction::MAX_CELLS],
     state: State,
     edges: EdgeBuffer,
 ) -> ArrivalIn
-    requires { ⌜ Sound (auction market (now weights) state) ⌝ }
-    ensures { λ r. ⌜ done (arrival (auction (r .market) (now (weights .exit)) (r .state)) (r .answer)) ≡ arriveOf (auction market (now (weights .entry)) state) (bufferEdges edges) ⌝ }
+    requires { ⌜ Sound (board items market (now weights) state) ⌝ }
+    ensures { λ r. ⌜ done (arrival (board items (r .market) (now (weights .exit)) (r .state)) (r .answer)) ≡ arriveOf (board items market (now (weights .entry)) state) (bufferEdges edges) ⌝ }
 {
     if market.arrived >= Auction::MAX_BIDDERS as u64 {
         return ArrivalIn {
@@ -55,16 +60,19 @@ pub fn arrive_in(
         };
     }
     let count = pairs(edges.count);
+    let starts = starts_of(items);
     let verdict = edges_verdict(
+        items,
+        &starts,
         &edges.items,
         &edges.weights,
         &market.withdrawn,
-        market.items,
         count,
     );
     let Verdict::Refused(refusal) = verdict else {
         let row = row_of(&edges.items, &edges.weights, count);
-        let moved = enter(market, weights, state, row);
+        let spread = spread_row(items, row);
+        let moved = enter(market, weights, state, spread);
         let after = moved.market;
         let settled = moved.state;
         return ArrivalIn {
@@ -81,29 +89,30 @@ pub fn arrive_in(
 }
 
 // A new bidder arrives with the edges of a buffer, and bids.
-pub fn arrive_buffer(mut auction: Auction, edges: EdgeBuffer) -> Arrival
-    ensures { λ r. ⌜ done r ≡ arriveOf auction (bufferEdges edges) ⌝ }
+pub fn arrive_buffer(mut board: Board, edges: EdgeBuffer) -> Arrival
+    ensures { λ r. ⌜ done r ≡ arriveOf board (bufferEdges edges) ⌝ }
 {
-    let market = auction.market;
-    let state = auction.state;
-    if !is_sound_in(market, &auction.weights, state) {
+    let items = board.items;
+    let market = board.market;
+    let state = board.state;
+    if !is_sound_in(items, market, &board.weights, state) {
         return Arrival {
-            auction,
+            board,
             answer: Arrived::Refused(Refusal::Spoilt),
         };
     }
-    let end = arrive_in(market, &mut auction.weights, state, edges);
+    let end = arrive_in(items, market, &mut board.weights, state, edges);
     let after = end.market;
-    auction.market = after;
+    board.market = after;
     let settled = end.state;
-    auction.state = settled;
+    board.state = settled;
     let answer = end.answer;
-    Arrival { auction, answer }
+    Arrival { board, answer }
 }
 
 // A new bidder arrives with the edges of a slice of any length, and bids.
-pub fn arrive(auction: Auction, edges: &[Edge]) -> Arrival
-    ensures { λ r. ⌜ done r ≡ arriveOf auction (now (edges .entry)) ⌝ }
+pub fn arrive(board: Board, edges: &[Edge]) -> Arrival
+    ensures { λ r. ⌜ done r ≡ arriveOf board (now (edges .entry)) ⌝ }
 {
-    arrive_buffer(auction, gather(edges))
+    arrive_buffer(board, gather(edges))
 }

@@ -4,11 +4,14 @@ use board::record::Auction;
 use board::record::Edge;
 use refusals::Refusal;
 use refusals::Verdict;
+use supply::record::Items;
 ghost use mathlib.Core.Path.{_≡_};
 ghost use Prim.Native.Nat.{ℕ, _+_, _≤_, _<_, min};
 ghost use Rattle.board.specs.Limits.{maxItems, maxEdges, maxWeight};
 ghost use Rattle.refusals.specs.Demand1.{firstOf};
 ghost use Rattle.board.specs.Ranges.{Within};
+ghost use Rattle.supply.specs.Shape.{Located};
+ghost use Rattle.supply.specs.ByItem.{goneBy};
 ghost use lib.ListN.{length, take};
 ghost use Rattle.duality.specs.Lists.{cells};
 ghost use Rattle.auction.specs.Edges.{orderTest, edgeChecks, edgesChecks, rowTo, bufferEdges, emptyBuffer, pushed};
@@ -34,22 +37,24 @@ pub(crate) fn is_unordered(items: &[u64], i: usize) -> bool
 
 // The edge of cell i, tested.
 fn edge_verdict<'a>(
+    known: Items,
+    starts: &'a [usize; Auction::MAX_ITEMS],
     items: &'a [u64; Auction::MAX_EDGES],
     weights: &'a [u64; Auction::MAX_EDGES],
     withdrawn: &'a [u8; Auction::MAX_ITEMS],
-    known: u64,
     i: usize,
 ) -> Verdict
-    requires { ⌜ (i < maxEdges) × (known ≤ maxItems) ⌝ }
-    ensures { λ r. ⌜ r ≡ firstOf (edgeChecks known (now (withdrawn .entry)) (cells (now (items .entry))) (cells (now (weights .entry))) i) ⌝ }
+    requires { ⌜ (i < maxEdges) × Located known (now starts) ⌝ }
+    ensures { λ r. ⌜ r ≡ firstOf (edgeChecks (known .count) (goneBy known (now (withdrawn .entry))) (cells (now (items .entry))) (cells (now (weights .entry))) i) ⌝ }
 {
     let place = i as u64 + 1;
     let item = items[i];
-    if !is_within(known, item) {
+    if !is_within(known.count, item) {
         return Verdict::Refused(Refusal::Unknown(place));
     }
     let k = (item - 1) as usize;
-    if withdrawn[k] != 0 {
+    let s = starts[k];
+    if withdrawn[s] != 0 {
         return Verdict::Refused(Refusal::Gone(place));
     }
     if !is_within(Auction::MAX_WEIGHT, weights[i]) {
@@ -63,18 +68,19 @@ fn edge_verdict<'a>(
 
 // All edges, each tested before the next.
 pub(crate) fn edges_verdict<'a>(
+    known: Items,
+    starts: &'a [usize; Auction::MAX_ITEMS],
     items: &'a [u64; Auction::MAX_EDGES],
     weights: &'a [u64; Auction::MAX_EDGES],
     withdrawn: &'a [u8; Auction::MAX_ITEMS],
-    known: u64,
     count: usize,
 ) -> Verdict
-    requires { ⌜ (count ≤ maxEdges) × (known ≤ maxItems) ⌝ }
-    ensures { λ r. ⌜ r ≡ firstOf (edgesChecks known (now (withdrawn .entry)) (cells (now (items .entry))) (cells (now (weights .entry))) 0 count) ⌝ }
+    requires { ⌜ (count ≤ maxEdges) × Located known (now starts) ⌝ }
+    ensures { λ r. ⌜ r ≡ firstOf (edgesChecks (known .count) (goneBy known (now (withdrawn .entry))) (cells (now (items .entry))) (cells (now (weights .entry))) 0 count) ⌝ }
 {
     let mut i: usize = 0;
     while i < count {
-        let verdict = edge_verdict(items, weights, withdrawn, known, i);
+        let verdict = edge_verdict(known, starts, items, weights, withdrawn, i);
         let Verdict::Served = verdict else {
             return verdict;
         };

@@ -4,12 +4,16 @@ use bidding::moves::release;
 use board::record::Auction;
 use board::record::Market;
 use board::record::State;
-use board::sound::is_sound_in;
 use refusals::Refusal;
 use refusals::Verdict;
+use supply::record::Board;
+use supply::record::Items;
+use supply::shape::starts_of;
+use supply::sound::is_sound_in;
+use supply::spread::spread_items;
 ghost use mathlib.Core.Path.{_≡_};
-ghost use Rattle.board.specs.Cells.{auction};
-ghost use Rattle.board.specs.Sound.{Sound};
+ghost use Rattle.supply.specs.Board.{board};
+ghost use Rattle.supply.specs.Sound.{Sound};
 ghost use Rattle.bidding.specs.Rule.{done};
 ghost use Rattle.auction.specs.Withdraw.{withdrawal, withdrawOf};
 
@@ -20,7 +24,7 @@ pub enum Withdrawn {
 }
 
 pub struct Withdrawal {
-    pub auction: Auction,
+    pub board: Board,
     pub answer: Withdrawn,
 }
 
@@ -31,20 +35,25 @@ pub struct WithdrawalIn {
     pub answer: Withdrawn,
 }
 
-// The withdrawal from a sound board, by its parts.
+// The withdrawal from a sound board, by its parts: all places of the items.
 pub fn withdraw_in(
+    known: Items,
     market: Market,
     weights: &[u32; Auction::MAX_CELLS],
     state: State,
     items: &[u64],
 ) -> WithdrawalIn
-    requires { ⌜ Sound (auction market (now weights) state) ⌝ }
-    ensures { λ r. ⌜ done (withdrawal (auction (r .market) (now (weights .entry)) (r .state)) (r .answer)) ≡
-        withdrawOf (auction market (now (weights .entry)) state) (now (items .entry)) ⌝ }
+    requires { ⌜ Sound (board known market (now weights) state) ⌝ }
+    ensures { λ r. ⌜ done (withdrawal (board known (r .market) (now (weights .entry)) (r .state)) (r .answer)) ≡
+        withdrawOf (board known market (now (weights .entry)) state) (now (items .entry)) ⌝ }
 {
-    let verdict = items_verdict(items, &market.withdrawn, market.items);
+    let starts = starts_of(known);
+    let verdict = items_verdict(known, &starts, items, &market.withdrawn);
     let Verdict::Refused(refusal) = verdict else {
-        let moved = release(market, weights, state, items);
+        let places = spread_items(known, &starts, items);
+        let numbers: &[u64] = &places.numbers;
+        let count = places.count;
+        let moved = release(market, weights, state, &numbers[0..count]);
         let after = moved.market;
         let settled = moved.state;
         return WithdrawalIn {
@@ -60,23 +69,24 @@ pub fn withdraw_in(
     }
 }
 
-// The items of a slice of any length are withdrawn, and then those who held one bid.
-pub fn withdraw(mut auction: Auction, items: &[u64]) -> Withdrawal
-    ensures { λ r. ⌜ done r ≡ withdrawOf auction (now (items .entry)) ⌝ }
+// The items of a slice of any length are withdrawn, and then those who held one of their places bid.
+pub fn withdraw(mut board: Board, items: &[u64]) -> Withdrawal
+    ensures { λ r. ⌜ done r ≡ withdrawOf board (now (items .entry)) ⌝ }
 {
-    let market = auction.market;
-    let state = auction.state;
-    if !is_sound_in(market, &auction.weights, state) {
+    let known = board.items;
+    let market = board.market;
+    let state = board.state;
+    if !is_sound_in(known, market, &board.weights, state) {
         return Withdrawal {
-            auction,
+            board,
             answer: Withdrawn::Refused(Refusal::Spoilt),
         };
     }
-    let end = withdraw_in(market, &auction.weights, state, items);
+    let end = withdraw_in(known, market, &board.weights, state, items);
     let after = end.market;
-    auction.market = after;
+    board.market = after;
     let settled = end.state;
-    auction.state = settled;
+    board.state = settled;
     let answer = end.answer;
-    Withdrawal { auction, answer }
+    Withdrawal { board, answer }
 }

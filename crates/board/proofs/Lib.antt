@@ -5,7 +5,6 @@ pub mod Lending
 pub mod Light
 pub mod LiveLaws
 pub mod Numbers
-pub mod Openings
 pub mod Placing
 pub mod SoundLaw
 pub mod SoundPass

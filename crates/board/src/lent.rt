@@ -1,20 +1,15 @@
 // The three lists that a caller lends, for a matching, prices and gains; and the same as plain numbers.
 use crate::record::Auction;
-use crate::record::Market;
 use crate::record::State;
-use crate::sound::is_sound_in;
 use crate::units::Scaled;
-use refusals::Refusal;
-use refusals::Verdict;
 ghost use mathlib.Core.Path.{_≡_};
-ghost use Prim.Native.Nat.{ℕ, _*_, _≤_, _<_, _^_};
+ghost use Prim.Native.Nat.{ℕ, _≤_, _<_, _^_};
 ghost use lib.ListN.{length};
 ghost use Rattle.duality.specs.Lists.{cells};
 ghost use Rattle.duality.specs.Sums.{sumTo};
 ghost use Rattle.board.specs.Limits.{maxItems, maxBidders};
-ghost use Rattle.refusals.specs.Demand1.{firstOf};
-ghost use Rattle.board.specs.Cells.{auction, scaledAt};
-ghost use Rattle.board.specs.Lent.{roomTest, lentChecks, Matched, ColumnsOf, written, writtenLists, lists};
+ghost use Rattle.board.specs.Cells.{scaledAt};
+ghost use Rattle.board.specs.Lent.{roomTest, Matched, ColumnsOf, written, writtenLists, lists};
 
 // A matching, prices and gains as a caller's lists have them: a cell for each bidder, item and bidder.
 pub struct Columns {
@@ -24,7 +19,7 @@ pub struct Columns {
 }
 
 // Whether three lists have a cell for each bidder, item and bidder.
-fn has_room(bidders: usize, items: usize, plan: usize, prices: usize, gains: usize) -> bool
+pub fn has_room(bidders: usize, items: usize, plan: usize, prices: usize, gains: usize) -> bool
     ensures { λ r. ⌜ r ≡ roomTest bidders items plan prices gains ⌝ }
 {
     if plan < bidders {
@@ -34,33 +29,6 @@ fn has_room(bidders: usize, items: usize, plan: usize, prices: usize, gains: usi
         return false;
     }
     bidders <= gains
-}
-
-// "Read-out and exact 13, 8": the board, and the lengths of the lists that are lent.
-pub fn lent_verdict(
-    market: Market,
-    weights: &[u32; Auction::MAX_CELLS],
-    state: State,
-    plan: usize,
-    prices: usize,
-    gains: usize,
-) -> Verdict
-    requires { ⌜ length (now weights) ≡ maxBidders * maxItems ⌝ }
-    ensures { λ r. ⌜ r ≡ firstOf (lentChecks (auction market (now (weights .entry)) state) plan prices gains) ⌝ }
-{
-    if !is_sound_in(market, weights, state) {
-        return Verdict::Refused(Refusal::Spoilt);
-    }
-    if !has_room(
-        market.arrived as usize,
-        market.items as usize,
-        plan,
-        prices,
-        gains,
-    ) {
-        return Verdict::Refused(Refusal::Short);
-    }
-    Verdict::Served
 }
 
 // The matching: for each bidder the number of its item, or 0.

@@ -1,13 +1,13 @@
 -- The worked refusals and answers hold: the calls by computation, the texts by demand 1.
 use mathlib.Core.Path.{_≡_, refl, sym, ap, _∙_}
-use mathlib.Core.List.{List}
+use mathlib.Core.List.{List, []}
 use Prim.Native.Nat.{ℕ}
 use native.Mathlib.Omega.{arith}
 use lib.ListN.{getD}
 use Rattle.text.specs.Print.{decimal}
 use Rattle.refusals.specs.declared.Refusal.{Refusal}
 use Rattle.refusals.specs.Demand1.{firstOf}
-use Rattle.board.specs.Opening.{opened}
+use Rattle.supply.specs.Opening.{opened}
 use Rattle.auction.specs.declared.arrive.Arrived.{Arrived}
 use Rattle.auction.specs.declared.withdraw.Withdrawn.{Withdrawn}
 use Rattle.auction.proofs.CallVerdicts.{arrive-spoilt, arrive-full, withdraw-spoilt, read-out-by}
@@ -37,8 +37,8 @@ text-limit : TextLimit
 unfolding decimal
 text-limit =
     record {
-      above = λ s e. sheets-demand-1 s .refuses 0 (opened 0 0 0) 0 Refusal.Long (TextRefused.long (omega (arith, e)));
-      most = λ s e a. sheets-demand-1 s .refuses 1 (opened 0 0 0) 0 (Refusal.Line 1) (TextRefused.by-line (omega (arith, e)) (LineRefused.unopened (λ k p q next w. no-opening s k p q next a w)));
+      above = λ s e. sheets-demand-1 s .refuses 0 (opened 0 0 []) 0 Refusal.Long (TextRefused.long (omega (arith, e)));
+      most = λ s e a. sheets-demand-1 s .refuses 1 (opened 0 0 []) 0 (Refusal.Line 1) (TextRefused.by-line (omega (arith, e)) (LineRefused.unopened (λ k p q next w. no-opening s k p q next a w)));
     }
   where
     no-opening : (s : List ℕ) (k p q next : ℕ) → getD s 0 0 ≡ 65 → Says s 0 (opens k p q) next → ⊥

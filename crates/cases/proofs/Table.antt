@@ -9,16 +9,18 @@ use Rattle.board.specs.Ranges.{withinTest, slackTest}
 use Rattle.refusals.specs.Each.{eachChecks}
 use Rattle.auction.specs.Edges.{orderTest, edgeChecks, rowTo}
 use Rattle.auction.specs.Items.{itemChecks}
-use Rattle.board.specs.Opening.{opened, openBy, openOf}
+use Rattle.board.specs.Opening as place
+use Rattle.supply.specs.Opening.{itemsOf, opened, openChecks, openBy, openOf}
+use Rattle.supply.specs.Spread.{spreadRow, numbersFrom, placesNamed}
 use Rattle.auction.specs.Arrive.{arriveRest, arrivalOf, arriveBy}
 use Rattle.bidding.specs.Moves.{entered, arrivedOf, released}
 use Rattle.bidding.specs.Withdrawals.{displacedIf, vacated, vacatedTo, namedIn, rollOf, moreBids, nextChain, chainsFrom, withdrawnOf}
 use Rattle.auction.specs.Withdraw.{withdrawRest, withdrawalOf, withdrawBy}
 use Rattle.duality.specs.Decide.{allBelow}
-use Rattle.duality.specs.Tests.{freshTest, cellTest}
+use Rattle.places.specs.PlanTest.{cellTestWith}
 use Rattle.certificate.specs.Check.{evenTest, priceTest, coveredTest, checkBy, listChecks, checkRest}
 use Rattle.cases.specs.Play.{afterCheck, afterReadOut, afterArrive, afterWithdraw, played, withdrew, play}
-use Rattle.board.specs.Lent.{roomTest}
+use Rattle.board.specs.Lent.{written, roomTest}
 use Rattle.auction.specs.ReadOut.{readOutBy}
 use Rattle.cases.specs.Table.{Row, table, Cases}
 use Rattle.cases.specs.Refused.{refusals}
@@ -30,19 +32,21 @@ all-played (r ∷ rows) = rw (play-skips (r .case), all-played rows)
 
 computed : map (λ r. skip (r .case)) table ≡ map (λ r. r .seen) table
 unfolding
-    table skip checkRest afterCheck listChecks priceTest coveredTest evenTest checkBy freshTest cellTest allBelow
+    table skip checkRest afterCheck listChecks priceTest coveredTest evenTest checkBy cellTestWith allBelow
     skipOpening skipAll afterArrive afterWithdraw played withdrew heldBy edgeCount
     offerOf bestOf placedAt displaced handOver bidOf settleOf firstOf withinTest orderTest edgeChecks itemChecks eachChecks rowTo
-    opened slackTest openBy openOf arriveRest entered arrivalOf arrivedOf arriveBy withdrawRest released withdrawalOf withdrawBy
+    itemsOf place.opened opened slackTest openChecks openBy openOf written spreadRow numbersFrom placesNamed
+    arriveRest entered arrivalOf arrivedOf arriveBy withdrawRest released withdrawalOf withdrawBy
     displacedIf vacated vacatedTo namedIn rollOf moreBids nextChain chainsFrom withdrawnOf
 computed = refl
 
 pub computed-refusals : map (λ r. skip (r .case)) refusals ≡ map (λ r. r .seen) refusals
 unfolding
-    refusals skip checkRest afterCheck listChecks priceTest coveredTest evenTest checkBy freshTest cellTest allBelow
+    refusals skip checkRest afterCheck listChecks priceTest coveredTest evenTest checkBy cellTestWith allBelow
     skipOpening skipAll afterArrive afterWithdraw afterReadOut played withdrew heldBy edgeCount roomTest readOutBy
     offerOf bestOf placedAt displaced handOver bidOf settleOf firstOf withinTest orderTest edgeChecks itemChecks eachChecks rowTo
-    opened slackTest openBy openOf arriveRest entered arrivalOf arrivedOf arriveBy withdrawRest released withdrawalOf withdrawBy
+    itemsOf place.opened opened slackTest openChecks openBy openOf written spreadRow numbersFrom placesNamed
+    arriveRest entered arrivalOf arrivedOf arriveBy withdrawRest released withdrawalOf withdrawBy
     displacedIf vacated vacatedTo namedIn rollOf moreBids nextChain chainsFrom withdrawnOf
 computed-refusals = refl
 

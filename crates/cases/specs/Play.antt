@@ -2,22 +2,24 @@
 use mathlib.Core.List.{List, [], _∷_}
 use Prim.Native.Nat.{ℕ, zero, suc}
 use lib.IntN.{ℤ}
+use lib.ListN.{replicate}
 use Rattle.duality.specs.Cover.{total}
-use Rattle.duality.specs.Greatest.{greatestWeight}
-use Rattle.board.specs.declared.record.Auction.{Auction}
+use Rattle.places.specs.GreatestWeightWith.{greatestWith}
+use Rattle.supply.specs.declared.record.Board.{Board}
 use Rattle.board.specs.declared.record.Edge.{Edge}
-use Rattle.board.specs.declared.opening.Opened.{Opened}
+use Rattle.supply.specs.declared.opening.Opened.{Opened}
 use Rattle.auction.specs.declared.arrive.Arrived.{Arrived}
 use Rattle.auction.specs.declared.arrive.Arrival.{Arrival}
 use Rattle.auction.specs.declared.withdraw.Withdrawn.{Withdrawn}
 use Rattle.auction.specs.declared.withdraw.Withdrawal.{Withdrawal}
 use Rattle.auction.specs.declared.read_out.ReadOut.{ReadOut}
-use Rattle.board.specs.Cells.{priceAt, gainAt}
-use Rattle.board.specs.Live.{live, matchingOf, matchingWeight}
+use Rattle.board.specs.Cells as place
+use Rattle.supply.specs.Board.{auctionOf, placesAt}
+use Rattle.supply.specs.ByItem.{live, gainAt, priceAt, matchingOf, matchingWeight}
 use Rattle.bidding.specs.Rule.{Outcome, done, spent}
 use Rattle.refusals.specs.Codes.{Code, codeOf}
 use Rattle.board.specs.Lent.{Lists}
-use Rattle.board.specs.Opening.{openOf}
+use Rattle.supply.specs.Opening.{openOf}
 use Rattle.auction.specs.Arrive.{arriveOf}
 use Rattle.auction.specs.Withdraw.{withdrawOf}
 use Rattle.auction.specs.ReadOut.{readOutOf}
@@ -39,10 +41,15 @@ pub record Case : Type 0 where
   pub items : ℕ
   pub p : ℕ
   pub q : ℕ
+  pub counts : List ℕ
   pub calls : List Call
 
+-- With so many places for each item; and with one each
+abbrev pub onPlaces : ℕ → ℕ → ℕ → List ℕ → List Call → Case
+onPlaces items p q counts calls = record { items = items; p = p; q = q; counts = counts; calls = calls }
+
 abbrev pub on : ℕ → ℕ → ℕ → List Call → Case
-on items p q calls = record { items = items; p = p; q = q; calls = calls }
+on items p q calls = onPlaces items p q (replicate items 1) calls
 
 -- What is seen at the end: the matching, gains and prices, the matching's weight, the sum of prices and gains, the greatest weight, the bids of each
 -- call; or a check's two totals; or the lists that were read out; or the difference and the order of two plans; or the refusal that stopped the case, by
@@ -63,27 +70,27 @@ abbrev pub firstCells : ℕ → (ℕ → ℕ) → List ℕ
 firstCells zero f = []
 firstCells (suc n) f = f 0 ∷ firstCells n (λ i. f (suc i))
 
-abbrev pub seen : Auction → List ℕ → Seen
+abbrev pub seen : Board → List ℕ → Seen
 seen b bids =
-    board (firstCells (b .market .arrived) (matchingOf b)) (firstCells (b .market .arrived) (gainAt b)) (firstCells (b .market .items) (priceAt b))
-    (matchingWeight b) (total (b .market .arrived) (b .market .items) (priceAt b) (gainAt b))
-    (greatestWeight (b .market .arrived) (b .market .items) (live b)) bids
+    board (firstCells (b .market .arrived) (matchingOf b)) (firstCells (b .market .arrived) (gainAt b)) (firstCells (b .items .count) (priceAt b))
+    (matchingWeight b) (total (b .market .arrived) (b .market .items) (place.priceAt (auctionOf b)) (gainAt b))
+    (greatestWith (b .market .arrived) (b .items .count) (placesAt b) (live b)) bids
 
-unfoldable pub played : (Auction → List ℕ → Seen) → List ℕ → Auction → Arrived → Seen
+unfoldable pub played : (Board → List ℕ → Seen) → List ℕ → Board → Arrived → Seen
 played next bids b (Arrived.Bids n) = next b (n ∷ bids)
 played next bids b (Arrived.Refused r) = refusal (codeOf r)
 
-unfoldable pub withdrew : (Auction → List ℕ → Seen) → List ℕ → Auction → Withdrawn → Seen
+unfoldable pub withdrew : (Board → List ℕ → Seen) → List ℕ → Board → Withdrawn → Seen
 withdrew next bids b (Withdrawn.Bids n) = next b (n ∷ bids)
 withdrew next bids b (Withdrawn.Refused r) = refusal (codeOf r)
 
-unfoldable pub afterArrive : (Auction → List ℕ → Seen) → List ℕ → Outcome Arrival → Seen
+unfoldable pub afterArrive : (Board → List ℕ → Seen) → List ℕ → Outcome Arrival → Seen
 afterArrive next bids spent = unended
-afterArrive next bids (done a) = played next bids (a .auction) (a .answer)
+afterArrive next bids (done a) = played next bids (a .board) (a .answer)
 
-unfoldable pub afterWithdraw : (Auction → List ℕ → Seen) → List ℕ → Outcome Withdrawal → Seen
+unfoldable pub afterWithdraw : (Board → List ℕ → Seen) → List ℕ → Outcome Withdrawal → Seen
 afterWithdraw next bids spent = unended
-afterWithdraw next bids (done a) = withdrew next bids (a .auction) (a .answer)
+afterWithdraw next bids (done a) = withdrew next bids (a .board) (a .answer)
 
 -- A check is the last call, and so are a read-out and a comparison
 unfoldable pub afterCheck : Checked → Seen
@@ -99,7 +106,7 @@ afterCompare (Compared.Plans difference order) = sides difference (orderNumber o
 afterCompare (Compared.Refused r) = refusal (codeOf r)
 
 -- The calls in turn; the bids of the last call first
-unfoldable pub playAll : List Call → Auction → List ℕ → Seen
+unfoldable pub playAll : List Call → Board → List ℕ → Seen
 playAll [] b bids = seen b bids
 playAll (arrive edges ∷ rest) b bids = afterArrive (playAll rest) bids (arriveOf b edges)
 playAll (withdraw items ∷ rest) b bids = afterWithdraw (playAll rest) bids (withdrawOf b items)
@@ -107,9 +114,9 @@ playAll (check l p q ∷ rest) b bids = afterCheck (checkOf b l p q)
 playAll (readOut l ∷ rest) b bids = afterReadOut (readOutOf b l .lists) (readOutOf b l .answer)
 playAll (compare first second ∷ rest) b bids = afterCompare (compareOf b first second)
 
-unfoldable pub opening : List Call → Auction → Opened → Seen
+unfoldable pub opening : List Call → Board → Opened → Seen
 opening calls b Opened.Ready = playAll calls b []
 opening calls b (Opened.Refused r) = refusal (codeOf r)
 
 unfoldable pub play : Case → Seen
-play c = opening (c .calls) (openOf (c .items) (c .p) (c .q) .auction) (openOf (c .items) (c .p) (c .q) .answer)
+play c = opening (c .calls) (openOf (c .items) (c .p) (c .q) (c .counts) .board) (openOf (c .items) (c .p) (c .q) (c .counts) .answer)

@@ -6,9 +6,9 @@ use lib.ListN.{length, getD}
 use Rattle.refusals.specs.declared.Refusal.{Refusal}
 use Rattle.refusals.specs.declared.Told.{Told}
 use Rattle.board.specs.declared.record.Edge.{Edge}
-use Rattle.board.specs.declared.opening.Opened.{Opened}
+use Rattle.supply.specs.declared.opening.Opened.{Opened}
 use Rattle.board.specs.Cells.{edge, pence, scaled}
-use Rattle.board.specs.Opening.{openedTold}
+use Rattle.supply.specs.Opening.{openedTold}
 use Rattle.board.specs.Lent.{Lists, lists}
 use Rattle.auction.specs.declared.arrive.Arrived.{Arrived}
 use Rattle.auction.specs.declared.withdraw.Withdrawn.{Withdrawn}
@@ -24,7 +24,7 @@ use Rattle.history.specs.declared.planning.Planned.{Planned}
 use Rattle.history.specs.Demand1.{plannedTold}
 use Rattle.history.specs.Plan.{sheetOf}
 use Rattle.cases.specs.FullBoard.{full}
-use Rattle.cases.specs.Play.{Call, arrive, withdraw, check, readOut, on, refused, play}
+use Rattle.cases.specs.Play.{Call, arrive, withdraw, check, readOut, onPlaces, on, refused, play}
 use Rattle.cases.specs.Table.{Row, row, after1}
 
 -- ---- Calls
@@ -40,6 +40,12 @@ refusals =
     (row (on 65 5 5 []) (refused 1 0) ∷
     -- 2 "q 1,000 accepted, 1,001: 2"
     (row (on 64 1 1001 []) (refused 2 0) ∷
+    -- R-6: 9 for counts of another length, after 2; 16 at the first kettle whose count is not 1 to 8, also before the total; 16 at 0 for 65 places
+    (row (onPlaces 2 5 5 (1 ∷ []) []) (refused 2 0) ∷
+    (row (onPlaces 2 1 10 (9 ∷ []) []) (refused 9 0) ∷
+    (row (onPlaces 3 1 10 (1 ∷ (0 ∷ (9 ∷ []))) []) (refused 16 2) ∷
+    (row (onPlaces 9 1 10 (8 ∷ (8 ∷ (8 ∷ (8 ∷ (8 ∷ (8 ∷ (8 ∷ (8 ∷ (9 ∷ []))))))))) []) (refused 16 9) ∷
+    (row (onPlaces 9 1 10 (8 ∷ (8 ∷ (8 ∷ (8 ∷ (8 ∷ (8 ∷ (8 ∷ (8 ∷ (1 ∷ []))))))))) []) (refused 16 0) ∷
     -- 4 "kettle not 1 to k", at its entry; it comes before 6
     (row (on 2 1 10 (one (arrive (edge 1 5 ∷ (edge 3 0 ∷ []))))) (refused 4 2) ∷
     (row (on 2 1 10 (one (withdraw (3 ∷ [])))) (refused 4 1) ∷
@@ -70,7 +76,7 @@ refusals =
     (row (on 2 1 10 (after1 (lists (2 ∷ (1 ∷ [])) (0 ∷ (1000000001 ∷ [])) (0 ∷ (0 ∷ []))))) (refused 11 2) ∷
     (row (on 2 1 10 (after1 (lists (2 ∷ (1 ∷ [])) (0 ∷ (0 ∷ [])) (0 ∷ (1000000001 ∷ []))))) (refused 11 4) ∷
     -- 12 "a live entry not covered", at the batch
-    (row (on 2 1 10 (after1 (lists (2 ∷ (1 ∷ [])) (40 ∷ (0 ∷ [])) (60 ∷ (49 ∷ []))))) (refused 12 2) ∷ [])))))))))))))))))))))
+    (row (on 2 1 10 (after1 (lists (2 ∷ (1 ∷ [])) (40 ∷ (0 ∷ [])) (60 ∷ (49 ∷ []))))) (refused 12 2) ∷ []))))))))))))))))))))))))))
 
 -- Each is seen so
 abbrev pub Refusals : Type 0

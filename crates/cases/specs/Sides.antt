@@ -4,7 +4,7 @@ use mathlib.Core.List.{List, [], _∷_, _++_, map}
 use Prim.Native.Nat.{ℕ, _*_}
 use lib.IntN.{ℤ, pos, negsuc}
 use lib.ListN.{replicate}
-use Rattle.board.specs.declared.record.Auction.{Auction}
+use Rattle.supply.specs.declared.record.Board.{Board}
 use Rattle.board.specs.Limits.{maxItems, maxBidders}
 use Rattle.board.specs.Cells.{edge, scaled}
 use Rattle.refusals.specs.declared.Refusal.{Refusal}
@@ -50,9 +50,10 @@ sideRows =
 -- ---- "exact at zero and both ends": the greatest weight that a board can hold
 
 -- As the full board, but every edge weighs 1,000,000
-unfoldable pub heavy : Auction
+unfoldable pub heavy : Board
 heavy =
     record {
+      items = record { count = maxItems; places = replicate maxItems 1 };
       market = record { items = maxItems; slack = record { p = 1; q = 2 }; arrived = maxBidders; withdrawn = replicate maxItems 0 };
       state = record { price = replicate maxItems (scaled 3000000); holder = count 1 maxItems; gain = replicate maxBidders (scaled 0) };
       weights = replicate (maxBidders * maxItems) 1000000;

@@ -1,10 +1,11 @@
--- The table of the starred cases: each case as document 01 gives it, and what is seen; with the worked example of document 02's R-1, and lists withdrawn as its R-3 has them.
+-- The table of the starred cases: each case as document 01 gives it, and what is seen; with the worked example of document 02's R-1, lists withdrawn as
+-- its R-3 has them, and a double kettle as in its R-6.
 use mathlib.Core.Path.{_≡_}
 use mathlib.Core.List.{List, [], _∷_, map}
 use Prim.Native.Nat.{ℕ}
 use Rattle.board.specs.Cells.{edge}
 use Rattle.board.specs.Lent.{Lists, lists}
-use Rattle.cases.specs.Play.{Call, arrive, withdraw, check, Case, on, Seen, board, totals, refused, play}
+use Rattle.cases.specs.Play.{Call, arrive, withdraw, check, Case, onPlaces, on, Seen, board, totals, refused, play}
 
 -- 1 "The text above"
 abbrev pub case1 : List Call
@@ -21,6 +22,10 @@ tied = arrive (edge 2 100 ∷ []) ∷ (arrive (edge 1 50 ∷ (edge 2 60 ∷ []))
 -- Two batches on kettles 2 and 1, with a kettle 3 that is worth 100 to batch 1 and w to batch 2, and a steam line that feeds kettles 1 and 2 fails (R-3)
 abbrev pub rivals : ℕ → List Call
 rivals w = arrive (edge 2 300 ∷ (edge 3 100 ∷ [])) ∷ (arrive (edge 1 301 ∷ (edge 3 w ∷ [])) ∷ (withdraw (1 ∷ (2 ∷ [])) ∷ []))
+
+-- A double kettle at slack 1/2, worth 100, 90 and 80 to three batches (R-6)
+abbrev pub double : List Call → List Call
+double rest = arrive (edge 1 100 ∷ []) ∷ (arrive (edge 1 90 ∷ []) ∷ (arrive (edge 1 80 ∷ []) ∷ rest))
 
 pub record Row : Type 0 where
   pub case : Case
@@ -68,10 +73,20 @@ table =
     -- "an empty list changes nothing in a call": case 1, and an empty list
     (row (on 2 1 10 (arrive (edge 1 100 ∷ (edge 2 60 ∷ [])) ∷ (arrive (edge 1 90 ∷ []) ∷ (withdraw [] ∷ []))))
     (board (2 ∷ (1 ∷ [])) (600 ∷ (420 ∷ [])) (570 ∷ (60 ∷ [])) 150 1650 150 (0 ∷ (6 ∷ (1 ∷ [])))) ∷
+    -- R-6 "each place has its own price; a batch compares places": batch 1 has the first place at price 100, batch 2 finds only the second open and has it at
+    -- 90, and to batch 3 neither is open. "Read-out gives a kettle's least price", 90; the sum counts every place's price: 100 + 90 + 200 + 180 is 3 × 190
+    (row (onPlaces 1 1 2 (2 ∷ []) (double [])) (board (1 ∷ (1 ∷ (0 ∷ []))) (200 ∷ (180 ∷ (0 ∷ []))) (90 ∷ []) 190 570 190 (0 ∷ (1 ∷ (1 ∷ [])))) ∷
+    -- "the check and exact level count a kettle's price once per place": what is read out is accepted at 1/2, and totals 2 × 90 + 380, "less than q + p times the worth"
+    (row (onPlaces 1 1 2 (2 ∷ []) (double (check (lists (1 ∷ (1 ∷ (0 ∷ []))) (90 ∷ []) (200 ∷ (180 ∷ (0 ∷ [])))) 1 2 ∷ []))) (totals 190 560) ∷
+    -- A third batch on a double kettle: 10 at batch 3
+    (row (onPlaces 1 1 2 (2 ∷ []) (double (check (lists (1 ∷ (1 ∷ (1 ∷ []))) (90 ∷ []) (200 ∷ (180 ∷ (0 ∷ [])))) 1 2 ∷ []))) (refused 10 3) ∷
+    -- "A withdrawal removes all places, with displaced batches in R-3's order"
+    (row (onPlaces 2 1 2 (2 ∷ (1 ∷ [])) (arrive (edge 1 100 ∷ (edge 2 60 ∷ [])) ∷ (arrive (edge 1 100 ∷ (edge 2 60 ∷ [])) ∷ (withdraw (1 ∷ []) ∷ []))))
+    (board (2 ∷ (0 ∷ [])) (120 ∷ (0 ∷ [])) (0 ∷ (60 ∷ [])) 60 180 60 (1 ∷ (1 ∷ (1 ∷ [])))) ∷
     -- 15 "At slack 1/2, two kettles; batch 1 has 60 on kettle 1, batch 2 has 61 on kettle 1 and 30 on kettle 2, batch 3 has 121 on kettle 1: batch
     -- 2 ends on kettle 1, the others unplaced, two bids; sum 183, greatest worth 151"
     (row (on 2 1 2 (arrive (edge 1 60 ∷ []) ∷ (arrive (edge 1 61 ∷ (edge 2 30 ∷ [])) ∷ (arrive (edge 1 121 ∷ []) ∷ []))))
-    (board (0 ∷ (1 ∷ (0 ∷ []))) (0 ∷ (62 ∷ (0 ∷ []))) (121 ∷ (0 ∷ [])) 61 183 151 (0 ∷ (1 ∷ (1 ∷ [])))) ∷ [])))))))))))))))
+    (board (0 ∷ (1 ∷ (0 ∷ []))) (0 ∷ (62 ∷ (0 ∷ []))) (121 ∷ (0 ∷ [])) 61 183 151 (0 ∷ (1 ∷ (1 ∷ [])))) ∷ [])))))))))))))))))))
 
 -- Each case is seen as the table has it
 abbrev pub Cases : Type 0

@@ -54,6 +54,22 @@ printedBare =
     (80 ∷ 9 ∷ 49 ∷ 9 ∷ 48 ∷ 9 ∷ 48 ∷ 10 ∷ []) ++
     ((80 ∷ 9 ∷ 50 ∷ 9 ∷ 48 ∷ 9 ∷ 48 ∷ 10 ∷ []) ++ ((84 ∷ 9 ∷ 48 ∷ 9 ∷ 48 ∷ 9 ∷ 55 ∷ 10 ∷ []) ++ (69 ∷ 9 ∷ 48 ∷ 10 ∷ [])))
 
+-- K, 1, 1, 2; P, 1, 2; A, 1, 100; A, 1, 90; A, 1, 80: a double kettle (document 02, R-6)
+abbrev pub textDouble : List ℕ
+textDouble =
+    (75 ∷ 9 ∷ 49 ∷ 9 ∷ 49 ∷ 9 ∷ 50 ∷ 10 ∷ []) ++
+    ((80 ∷ 9 ∷ 49 ∷ 9 ∷ 50 ∷ 10 ∷ []) ++
+    ((65 ∷ 9 ∷ 49 ∷ 9 ∷ 49 ∷ 48 ∷ 48 ∷ 10 ∷ []) ++ ((65 ∷ 9 ∷ 49 ∷ 9 ∷ 57 ∷ 48 ∷ 10 ∷ []) ++ (65 ∷ 9 ∷ 49 ∷ 9 ∷ 56 ∷ 48 ∷ 10 ∷ []))))
+
+-- P, 1, 1, 200; P, 2, 1, 180; P, 3, 0, 0; Y, 1, 90; T, 190, 570, 2; E, 190
+abbrev pub printedDouble : List ℕ
+printedDouble =
+    (80 ∷ 9 ∷ 49 ∷ 9 ∷ 49 ∷ 9 ∷ 50 ∷ 48 ∷ 48 ∷ 10 ∷ []) ++
+    ((80 ∷ 9 ∷ 50 ∷ 9 ∷ 49 ∷ 9 ∷ 49 ∷ 56 ∷ 48 ∷ 10 ∷ []) ++
+    ((80 ∷ 9 ∷ 51 ∷ 9 ∷ 48 ∷ 9 ∷ 48 ∷ 10 ∷ []) ++
+    ((89 ∷ 9 ∷ 49 ∷ 9 ∷ 57 ∷ 48 ∷ 10 ∷ []) ++
+    ((84 ∷ 9 ∷ 49 ∷ 57 ∷ 48 ∷ 9 ∷ 53 ∷ 55 ∷ 48 ∷ 9 ∷ 50 ∷ 10 ∷ []) ++ (69 ∷ 9 ∷ 49 ∷ 57 ∷ 48 ∷ 10 ∷ [])))))
+
 -- K, 2, 1, 10: the first line of the texts below
 abbrev pub firstLine1 : List ℕ
 firstLine1 = 75 ∷ 9 ∷ 50 ∷ 9 ∷ 49 ∷ 9 ∷ 49 ∷ 48 ∷ 10 ∷ []
@@ -88,8 +104,18 @@ texts =
     (textRow (firstLine1 ++ (65 ∷ 9 ∷ 51 ∷ 10 ∷ [])) (82 ∷ 9 ∷ 49 ∷ 52 ∷ 9 ∷ 50 ∷ 10 ∷ []) ∷
     -- 10 "Opening with 5/5: 2": K, 2, 5, 5: R, 2, 1
     (textRow (75 ∷ 9 ∷ 50 ∷ 9 ∷ 53 ∷ 9 ∷ 53 ∷ 10 ∷ []) (82 ∷ 9 ∷ 50 ∷ 9 ∷ 49 ∷ 10 ∷ []) ∷
+    -- R-6 a double kettle: what it prints, with its least price in `Y` and every place's price in `T`
+    (textRow textDouble printedDouble ∷
+    -- "A `P` line's kettle can meet 4, then 7, before 16": P, 3, 9: R, 4, 2; P, 1, 2; P, 1, 9: R, 7, 3; P, 1, 9: R, 16, 2
+    (textRow (firstLine1 ++ (80 ∷ 9 ∷ 51 ∷ 9 ∷ 57 ∷ 10 ∷ [])) (82 ∷ 9 ∷ 52 ∷ 9 ∷ 50 ∷ 10 ∷ []) ∷
+    (textRow (firstLine1 ++ ((80 ∷ 9 ∷ 49 ∷ 9 ∷ 50 ∷ 10 ∷ []) ++ (80 ∷ 9 ∷ 49 ∷ 9 ∷ 57 ∷ 10 ∷ []))) (82 ∷ 9 ∷ 55 ∷ 9 ∷ 51 ∷ 10 ∷ []) ∷
+    (textRow (firstLine1 ++ (80 ∷ 9 ∷ 49 ∷ 9 ∷ 57 ∷ 10 ∷ [])) (82 ∷ 9 ∷ 49 ∷ 54 ∷ 9 ∷ 50 ∷ 10 ∷ []) ∷
+    -- "over 64 in all at place 0 (line 1 of a text ..)": K, 64, 1, 2; P, 1, 2: R, 16, 1
+    (textRow ((75 ∷ 9 ∷ 54 ∷ 52 ∷ 9 ∷ 49 ∷ 9 ∷ 50 ∷ 10 ∷ []) ++ (80 ∷ 9 ∷ 49 ∷ 9 ∷ 50 ∷ 10 ∷ [])) (82 ∷ 9 ∷ 49 ∷ 54 ∷ 9 ∷ 49 ∷ 10 ∷ []) ∷
+    -- a later `P` is not of the form: A; P, 1, 2: R, 14, 3
+    (textRow (firstLine1 ++ ((65 ∷ 10 ∷ []) ++ (80 ∷ 9 ∷ 49 ∷ 9 ∷ 50 ∷ 10 ∷ []))) (82 ∷ 9 ∷ 49 ∷ 52 ∷ 9 ∷ 51 ∷ 10 ∷ []) ∷
     -- "an empty text is 14 at line 1"
-    (textRow [] (82 ∷ 9 ∷ 49 ∷ 52 ∷ 9 ∷ 49 ∷ 10 ∷ []) ∷ []))))))))))
+    (textRow [] (82 ∷ 9 ∷ 49 ∷ 52 ∷ 9 ∷ 49 ∷ 10 ∷ []) ∷ []))))))))))))))))
 
 -- Each text prints what the table has
 abbrev pub Texts : Type 0

@@ -2,15 +2,16 @@
 use mathlib.Core.Path.{_≡_, _∙_}
 use Prim.Native.Nat.{ℕ}
 use Rattle.duality.specs.Lists.{cells}
-use Rattle.board.specs.declared.record.Auction.{Auction}
+use Rattle.supply.specs.declared.record.Board.{Board}
 use Rattle.refusals.specs.declared.Verdict.the-variants.{Served}
-use Rattle.board.specs.Live.{live}
-use Rattle.board.specs.Sound.{Sound}
+use Rattle.supply.specs.Board.{placesAt}
+use Rattle.supply.specs.ByItem.{withdrawnAt, live}
+use Rattle.supply.specs.Sound.{Sound}
 use Rattle.board.specs.Ranges.{SlackIn}
 use Rattle.refusals.specs.Demand1.{firstOf}
 use Rattle.board.specs.Lent.{Lists}
 use Rattle.board.proofs.Tests.{slack-decides}
-use Rattle.board.proofs.SoundLaw.{sound-decides}
+use Rattle.supply.proofs.SoundLaw.{sound-decides}
 use Rattle.refusals.proofs.Verdicts.{first-on, served-both}
 use Rattle.certificate.specs.Check.{Even, checkChecks, checkBy, checkOf, listChecks, checkRest}
 use Rattle.certificate.specs.Accepted.{Accepted, TotalsAccepted, AcceptedTotals}
@@ -20,13 +21,13 @@ use Rattle.certificate.proofs.Served.{price-served, gain-served, bare-s
 use Rattle.certificate.proofs.Tests.{lists-even}
 use Rattle.certificate.proofs.Outcomes.{checked-totals, listsOf, by-totals}
 
-module _ (b : Auction) (l : Lists) (p q : ℕ) where
+module _ (b : Board) (l : Lists) (p q : ℕ) where
   -- The bidders, the items and the live weights
   abbrev n : ℕ
   n = b .market .arrived
 
   abbrev m : ℕ
-  m = b .market .items
+  m = b .items .count
 
   abbrev w : ℕ → ℕ → ℕ
   w = live b
@@ -42,9 +43,9 @@ module _ (b : Auction) (l : Lists) (p q : ℕ) where
         sound = sound;
         slack = slack;
         even = even;
-        matches = unclashed-matches n m w (cells (l .plan)) .0 plan;
-        prices = λ k h. price-served m (b .market .withdrawn) (cells (l .prices)) .0 prices k h .0;
-        withdrawn = λ k h. price-served m (b .market .withdrawn) (cells (l .prices)) .0 prices k h .1;
+        matches = unclashed-matches n m (placesAt b) w (cells (l .plan)) .0 plan;
+        prices = λ k h. price-served m (withdrawnAt b) (cells (l .prices)) .0 prices k h .0;
+        withdrawn = λ k h. price-served m (withdrawnAt b) (cells (l .prices)) .0 prices k h .1;
         gains = gain-served n m (cells (l .gains)) .0 gains;
         covers = bare-served n m w p q (cells (l .prices)) (cells (l .gains)) .0 bare;
       }
@@ -63,8 +64,8 @@ module _ (b : Auction) (l : Lists) (p q : ℕ) where
       test-serves _ _ _ (sound-decides b .complete (a .sound))
       (test-serves _ _ _ (slack-decides 0 p q .complete (a .slack))
       (test-serves _ _ _ (lists-even b l .complete (a .even))
-      (first-on _ _ (unclashed-matches n m w (cells (l .plan)) .1 (a .matches)) ∙
-      (first-on _ _ (price-served m (b .market .withdrawn) (cells (l .prices)) .1 (λ k h. (a .prices k h, a .withdrawn k h))) ∙
+      (first-on _ _ (unclashed-matches n m (placesAt b) w (cells (l .plan)) .1 (a .matches)) ∙
+      (first-on _ _ (price-served m (withdrawnAt b) (cells (l .prices)) .1 (λ k h. (a .prices k h, a .withdrawn k h))) ∙
       (first-on _ _ (gain-served n m (cells (l .gains)) .1 (a .gains)) ∙
       bare-served n m w p q (cells (l .prices)) (cells (l .gains)) .1 (a .covers))))))
 

@@ -7,22 +7,22 @@ use native.Mathlib.Nat.{suc-inj, mul-zero}
 use native.Mathlib.Omega.{arith}
 use lib.Dec.{leb}
 use Rattle.duality.specs.Lists.{cells}
-use Rattle.duality.specs.Tests.{cellTest}
 use Rattle.duality.proofs.Decide.{reword, true-decides}
 use Rattle.duality.proofs.Fails.{Fails, not-fails, refail, fail-le, fail-eq, fail-not, fail-and, fail-or, fail-all}
-use Rattle.board.specs.declared.record.Auction.{Auction}
+use Rattle.places.specs.PlanTest.{cellTestWith}
+use Rattle.supply.specs.declared.record.Board.{Board}
 use Rattle.refusals.specs.declared.Refusal.{Refusal}
 use Rattle.refusals.specs.declared.Refusal.the-variants.{Slack, Uneven, Clash, Price, Bare, Spoilt}
 use Rattle.refusals.specs.declared.Verdict.{Verdict}
 use Rattle.refusals.specs.declared.Verdict.the-variants.{Served, Refused}
-use Rattle.board.specs.Cells.{withdrawnAt}
-use Rattle.board.specs.Live.{live}
-use Rattle.board.specs.Sound.{Sound}
+use Rattle.supply.specs.Board.{placesAt}
+use Rattle.supply.specs.ByItem.{withdrawnAt, live}
+use Rattle.supply.specs.Sound.{Sound}
 use Rattle.board.specs.Ranges.{SlackIn}
 use Rattle.refusals.specs.Demand1.{firstOf}
 use Rattle.board.specs.Lent.{Lists}
 use Rattle.board.proofs.Tests.{no-decides, slack-decides}
-use Rattle.board.proofs.SoundLaw.{sound-decides}
+use Rattle.supply.proofs.SoundLaw.{sound-decides}
 use Rattle.refusals.proofs.Verdicts.{Decided, next, decided-append, demand-1}
 use Rattle.refusals.proofs.Places.{cells-decide, cells-codes, codes-both}
 use Rattle.matching.specs.Clash.{Clashes, clashChecks}
@@ -36,8 +36,8 @@ use Rattle.certificate.proofs.Outcomes.{checked-totals, checked-refused
 
 -- ---- A row of the table is what its test's failure says.
 
-module _ (b : Auction) where
-  price-fails : (prices : ℕ → ℕ) (k : ℕ) → Fails (priceTest (b .market .withdrawn) prices k) (PriceBad b prices k)
+module _ (b : Board) where
+  price-fails : (prices : ℕ → ℕ) (k : ℕ) → Fails (priceTest (withdrawnAt b) prices k) (PriceBad b prices k)
   unfolding priceTest
   price-fails prices k =
       refail
@@ -55,17 +55,17 @@ module _ (b : Auction) where
   some-edge c (suc v) s l = omega arith
 
   bare-fails : (p q : ℕ) (prices gains : ℕ → ℕ) (i : ℕ) →
-      Fails (coveredTest (b .market .items) (live b i) p q prices (gains i)) (Uncovered b p q prices gains i)
+      Fails (coveredTest (b .items .count) (live b i) p q prices (gains i)) (Uncovered b p q prices gains i)
   unfolding coveredTest
   bare-fails p q prices gains i =
       refail
-      (fail-all (b .market .items) _ _ (λ k. fail-le ((q - p) * live b i k) (gains i + prices k)))
+      (fail-all (b .items .count) _ _ (λ k. fail-le ((q - p) * live b i k) (gains i + prices k)))
       (λ s. record { item = s .at; below = s .below; edge = some-edge (q - p) (live b i (s .at)) _ (s .holds); short = s .holds })
       (λ u. record { at = u .item; below = u .below; holds = u .short })
 
 -- ---- The checks' tests decide the rows.
 
-module _ (b : Auction) (l : Lists) (p q : ℕ) where
+module _ (b : Board) (l : Lists) (p q : ℕ) where
   unsound : CheckMet b l p q Spoilt → Sound b → ⊥
   unsound (CheckMet.spoilt f) = f
 
@@ -84,15 +84,15 @@ module _ (b : Auction) (l : Lists) (p q : ℕ) where
   -- A refusal 11 is an item's or a bidder's, by its place
   Priced : ℕ → Type 0
   Priced n =
-      ((k : ℕ) × (k < b .market .items) × (n ≡ suc k) × PriceBad b (cells (l .prices)) k) ⊎
-      ((i : ℕ) × (n ≡ b .market .items + suc i) × (maxPrice < cells (l .gains) i))
+      ((k : ℕ) × (k < b .items .count) × (n ≡ suc k) × PriceBad b (cells (l .prices)) k) ⊎
+      ((i : ℕ) × (n ≡ b .items .count + suc i) × (maxPrice < cells (l .gains) i))
 
   priced : (n : ℕ) → CheckMet b l p q (Price n) → Priced n
   unfolding Priced
   priced n (CheckMet.price {k = k} h x) = inl (k, h, refl, x)
   priced n (CheckMet.gain i h x) = inr (i, refl, x)
 
-  price-met : (k : ℕ) → k < b .market .items → CheckMet b l p q (Price (suc k)) → PriceBad b (cells (l .prices)) k
+  price-met : (k : ℕ) → k < b .items .count → CheckMet b l p q (Price (suc k)) → PriceBad b (cells (l .prices)) k
   unfolding Priced
   price-met k h m =
       ⊎-elim
@@ -100,32 +100,32 @@ module _ (b : Auction) (l : Lists) (p q : ℕ) where
       (λ (i, e, x). absurd (omega arith))
       (priced (suc k) m)
 
-  gain-met : (i : ℕ) → CheckMet b l p q (Price (b .market .items + suc i)) → maxPrice < cells (l .gains) i
+  gain-met : (i : ℕ) → CheckMet b l p q (Price (b .items .count + suc i)) → maxPrice < cells (l .gains) i
   unfolding Priced
   gain-met i m =
       ⊎-elim
       (λ (k, g, e, x). absurd (omega arith))
       (λ (j, e, x). let s : i ≡ j = omega arith in rw s x)
-      (priced (b .market .items + suc i) m)
+      (priced (b .items .count + suc i) m)
 
-  clash-decided : Decided (CheckMet b l p q) (clashChecks (b .market .items) (live b) (cells (l .plan)) (b .market .arrived))
+  clash-decided : Decided (CheckMet b l p q) (clashChecks (b .items .count) (placesAt b) (live b) (cells (l .plan)) (b .market .arrived))
   clash-decided =
-      cells-decide _ (λ i. cellTest (b .market .items) (live b) (cells (l .plan)) i (cells (l .plan) i)) (b .market .arrived)
+      cells-decide _ (λ i. cellTestWith (b .items .count) (placesAt b) (live b) (cells (l .plan)) i (cells (l .plan) i)) (b .market .arrived)
       (λ i h. reword (clashes-tested b (cells (l .plan)) i) (λ x. CheckMet.clash h x) (clash-met i))
 
-  price-decided : Decided (CheckMet b l p q) (priceChecks (b .market .withdrawn) (cells (l .prices)) (b .market .items))
+  price-decided : Decided (CheckMet b l p q) (priceChecks (withdrawnAt b) (cells (l .prices)) (b .items .count))
   price-decided =
-      cells-decide _ (priceTest (b .market .withdrawn) (cells (l .prices))) (b .market .items)
+      cells-decide _ (priceTest (withdrawnAt b) (cells (l .prices))) (b .items .count)
       (λ k h. reword (not-fails (price-fails b (cells (l .prices)) k)) (λ x. CheckMet.price h x) (price-met k h))
 
-  gain-decided : Decided (CheckMet b l p q) (gainChecks (b .market .items) (cells (l .gains)) (b .market .arrived))
+  gain-decided : Decided (CheckMet b l p q) (gainChecks (b .items .count) (cells (l .gains)) (b .market .arrived))
   gain-decided =
       cells-decide _ (λ i. leb (cells (l .gains) i) maxPrice) (b .market .arrived)
       (λ i h. reword (not-fails (fail-le (cells (l .gains) i) maxPrice)) (λ x. CheckMet.gain i h x) (gain-met i))
 
-  bare-decided : Decided (CheckMet b l p q) (bareChecks (b .market .items) (live b) p q (cells (l .prices)) (cells (l .gains)) (b .market .arrived))
+  bare-decided : Decided (CheckMet b l p q) (bareChecks (b .items .count) (live b) p q (cells (l .prices)) (cells (l .gains)) (b .market .arrived))
   bare-decided =
-      cells-decide _ (λ i. coveredTest (b .market .items) (live b i) p q (cells (l .prices)) (cells (l .gains) i)) (b .market .arrived)
+      cells-decide _ (λ i. coveredTest (b .items .count) (live b i) p q (cells (l .prices)) (cells (l .gains) i)) (b .market .arrived)
       (λ i h. reword (not-fails (bare-fails b p q (cells (l .prices)) (cells (l .gains)) i)) (λ x. CheckMet.bare h x) (bare-met i))
 
   check-decided : Decided (CheckMet b l p q) (checkChecks b l p q)
@@ -153,13 +153,13 @@ pub check-order : CheckOrder
 unfolding checkRest listChecks
 check-order b l p q =
     let n = b .market .arrived in
-    let m = b .market .items in
+    let m = b .items .count in
     rw (
       codes-both,
       codes-both,
       codes-both,
-      cells-codes (λ i. Clash (suc i)) (λ i. cellTest m (live b) (cells (l .plan)) i (cells (l .plan) i)) 10 suc (λ j. refl) (λ j. refl) n,
-      cells-codes (λ k. Price (suc k)) (priceTest (b .market .withdrawn) (cells (l .prices))) 11 suc (λ j. refl) (λ j. refl) m,
+      cells-codes (λ i. Clash (suc i)) (λ i. cellTestWith m (placesAt b) (live b) (cells (l .plan)) i (cells (l .plan) i)) 10 suc (λ j. refl) (λ j. refl) n,
+      cells-codes (λ k. Price (suc k)) (priceTest (withdrawnAt b) (cells (l .prices))) 11 suc (λ j. refl) (λ j. refl) m,
       cells-codes (λ i. Price (m + suc i)) (λ i. leb (cells (l .gains) i) maxPrice) 11 (λ i. m + suc i) (λ j. refl) (λ j. omega arith) n,
       cells-codes (λ i. Bare (suc i)) (λ i. coveredTest m (live b i) p q (cells (l .prices)) (cells (l .gains) i)) 12 suc (λ j. refl) (λ j. refl) n,
     )

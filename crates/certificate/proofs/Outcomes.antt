@@ -6,9 +6,9 @@ use Prim.Native.Nat.{ℕ}
 use native.Mathlib.Omega.{arith}
 use lib.ListN.{length}
 use Rattle.duality.specs.Matching.{weightOf}
-use Rattle.duality.specs.Cover.{total}
 use Rattle.duality.specs.Lists.{cells}
-use Rattle.board.specs.declared.record.Auction.{Auction}
+use Rattle.places.specs.Total.{totalWith}
+use Rattle.supply.specs.declared.record.Board.{Board}
 use Rattle.board.specs.declared.units.Pence.{Pence}
 use Rattle.board.specs.declared.units.Scaled.{Scaled}
 use Rattle.refusals.specs.declared.Refusal.{Refusal}
@@ -16,8 +16,9 @@ use Rattle.refusals.specs.declared.Refusal.the-variants.{Slack, Uneven, Spoilt}
 use Rattle.refusals.specs.declared.Verdict.{Verdict}
 use Rattle.refusals.specs.declared.Verdict.the-variants.{Served, Refused}
 use Rattle.board.specs.Cells.{pence, scaled}
-use Rattle.board.specs.Live.{live}
-use Rattle.board.specs.SoundTest.{soundTest}
+use Rattle.supply.specs.Board.{placesAt}
+use Rattle.supply.specs.ByItem.{withdrawnAt, live}
+use Rattle.supply.specs.SoundTest.{soundTest}
 use Rattle.refusals.specs.Demand1.{Check, firstOf}
 use Rattle.board.specs.Ranges.{slackTest}
 use Rattle.board.specs.Lent.{Lists}
@@ -30,8 +31,8 @@ use Rattle.certificate.specs.declared.Totals.{Totals}
 use Rattle.certificate.specs.Check.{evenTest, checkBy, checkOf, listChecks, checkRest, totals, withoutTotals, checkedTold}
 
 -- The refusals 10, 11 and 12 of a board
-abbrev pub listsOf : Auction → Lists → ℕ → ℕ → List Check
-listsOf b = listChecks (b .market .arrived) (b .market .items) (b .market .withdrawn) (live b)
+abbrev pub listsOf : Board → Lists → ℕ → ℕ → List Check
+listsOf b = listChecks (b .market .arrived) (b .items .count) (placesAt b) (withdrawnAt b) (live b)
 
 -- What is told of an answer names the answer
 pub checked-totals : (c : Checked) (weight sum : ℕ) → checkedTold c ≡ totals weight sum → c ≡ Checked.Totals (pence weight) (scaled sum)
@@ -42,7 +43,7 @@ pub checked-refused : (c : Checked) (r : Refusal) → checkedTold c ≡ withoutT
 checked-refused (Checked.Totals w s) r e = let z = ap (λ (t : Totals). t .number) e in absurd (omega (arith, numbered r))
 checked-refused (Checked.Refused s) r e = ap Checked.Refused (codes-apart s r (ap (λ (t : Totals). code (t .number) (t .place)) e))
 
-module _ (b : Auction) (l : Lists) where
+module _ (b : Board) (l : Lists) where
   -- Totals come of no refusal
   pub by-totals : (v : Verdict) (weight : Pence) (sum : Scaled) → checkBy b l v ≡ Checked.Totals weight sum → v ≡ Served
   unfolding checkBy
@@ -60,11 +61,11 @@ module _ (b : Auction) (l : Lists) where
       check-slack e = rw (s, e)
 
       module _ (t : slackTest 0 p q ≡ true) where
-        pub check-uneven : evenTest (b .market .arrived) (b .market .items) (length (l .plan)) (length (l .prices)) (length (l .gains)) ≡ false → Checked.Refused Uneven ≡ checkOf b l p q
+        pub check-uneven : evenTest (b .market .arrived) (b .items .count) (length (l .plan)) (length (l .prices)) (length (l .gains)) ≡ false → Checked.Refused Uneven ≡ checkOf b l p q
         unfolding checkOf checkBy checkRest firstOf
         check-uneven e = rw (s, t, e)
 
-        pub check-lists : evenTest (b .market .arrived) (b .market .items) (length (l .plan)) (length (l .prices)) (length (l .gains)) ≡ true →
+        pub check-lists : evenTest (b .market .arrived) (b .items .count) (length (l .plan)) (length (l .prices)) (length (l .gains)) ≡ true →
             checkBy b l (firstOf (listsOf b l p q)) ≡ checkOf b l p q
         unfolding checkOf checkRest firstOf
         check-lists e = rw (s, t, e)
@@ -74,6 +75,6 @@ module _ (b : Auction) (l : Lists) where
   lists-refused v r e = rw e
 
   pub lists-served : (v : Verdict) (weight : Pence) (sum : Scaled) → v ≡ Served → weight .0 ≡ weightOf (b .market .arrived) (live b) (cells (l .plan)) →
-      sum .0 ≡ total (b .market .arrived) (b .market .items) (cells (l .prices)) (cells (l .gains)) → Checked.Totals weight sum ≡ checkBy b l v
+      sum .0 ≡ totalWith (b .market .arrived) (b .items .count) (placesAt b) (cells (l .prices)) (cells (l .gains)) → Checked.Totals weight sum ≡ checkBy b l v
   unfolding checkBy
   lists-served v weight sum e f g = rw e (ap₂ Checked.Totals (ap pence f) (ap scaled g))

@@ -1,7 +1,6 @@
 -- What it means that neither of the refusals 11 and 12 is met.
 use mathlib.Core.Path.{_≡_}
-use mathlib.Core.Bool.{true}
-use mathlib.Core.List.{List}
+use mathlib.Core.Bool.{Bool, true}
 use mathlib.Core.Logic.{_↔_}
 use Prim.Native.Nat.{ℕ, _-_, _≤_, _<_}
 use Rattle.duality.specs.Cover.{Covers}
@@ -11,17 +10,16 @@ use Rattle.duality.proofs.TestsDecide.{covers-test-decides}
 use Rattle.refusals.specs.declared.Verdict.the-variants.{Served}
 use Rattle.refusals.specs.Demand1.{firstOf}
 use Rattle.board.specs.Limits.{maxPrice}
-use Rattle.board.specs.Cells.{flagAt}
 use Rattle.certificate.specs.Check.{priceTest, priceChecks, gainChecks, coveredTest, bareChecks}
 use Rattle.refusals.proofs.Places.{cells-served}
 use Rattle.certificate.proofs.Tests.{price-decides}
 
 module _ (n : ℕ) where
-  pub price-served : (withdrawn : List ℕ) (prices : ℕ → ℕ) →
+  pub price-served : (withdrawn : ℕ → Bool) (prices : ℕ → ℕ) →
       (firstOf (priceChecks withdrawn prices n) ≡ Served) ↔
-      ((k : ℕ) → k < n → (prices k ≤ maxPrice) × (flagAt withdrawn k ≡ true → prices k ≡ 0))
+      ((k : ℕ) → k < n → (prices k ≤ maxPrice) × (withdrawn k ≡ true → prices k ≡ 0))
   unfolding priceTest
-  price-served withdrawn prices = agree (cells-served _ _ n) (all-decides n _ _ (λ k. price-decides (prices k) (flagAt withdrawn k)))
+  price-served withdrawn prices = agree (cells-served _ _ n) (all-decides n _ _ (λ k. price-decides (prices k) (withdrawn k)))
 
   module _ (items : ℕ) where
     pub gain-served : (gains : ℕ → ℕ) → (firstOf (gainChecks items gains n) ≡ Served) ↔ ((i : ℕ) → i < n → gains i ≤ maxPrice)

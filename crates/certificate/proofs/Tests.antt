@@ -7,7 +7,7 @@ use lib.Dec.{eqb, leb}
 use borrow.Author.Tests.{not-false}
 use Rattle.duality.specs.Decide.{Decides}
 use Rattle.duality.proofs.Decide.{reword, eq-decides, le-decides, and-decides, or-decides}
-use Rattle.board.specs.declared.record.Auction.{Auction}
+use Rattle.supply.specs.declared.record.Board.{Board}
 use Rattle.board.specs.Lent.{Lists}
 use Rattle.board.specs.Limits.{maxPrice}
 use Rattle.certificate.specs.Check.{Even, evenTest}
@@ -19,8 +19,8 @@ unfolding evenTest
 even-decides bidders items plan prices gains =
     and-decides (eq-decides plan bidders) (and-decides (eq-decides prices items) (eq-decides gains bidders))
 
-pub lists-even : (b : Auction) (l : Lists) →
-    Decides (evenTest (b .market .arrived) (b .market .items) (length (l .plan)) (length (l .prices)) (length (l .gains))) (Even b l)
+pub lists-even : (b : Board) (l : Lists) →
+    Decides (evenTest (b .market .arrived) (b .items .count) (length (l .plan)) (length (l .prices)) (length (l .gains))) (Even b l)
 lists-even b l =
     reword (even-decides _ _ _ _ _)
     (λ h. record { plan = h .0; prices = h .1 .0; gains = h .1 .1 })

@@ -6,20 +6,21 @@ use Prim.Native.Nat.{ℕ, suc, _+_, _-_, _*_, _≤_, _<_}
 use lib.ListN.{length}
 use lib.Dec.{eqb, leb}
 use Rattle.duality.specs.Matching.{weightOf}
-use Rattle.duality.specs.Cover.{total}
+use Rattle.places.specs.Total.{totalWith}
 use Rattle.duality.specs.Decide.{allBelow}
 use Rattle.duality.specs.Lists.{cells}
-use Rattle.board.specs.declared.record.Auction.{Auction}
+use Rattle.supply.specs.declared.record.Board.{Board}
 use Rattle.refusals.specs.declared.Refusal.{Refusal}
 use Rattle.refusals.specs.declared.Refusal.the-variants.{Slack, Uneven, Clash, Price, Bare, Spoilt}
 use Rattle.refusals.specs.declared.Verdict.{Verdict}
 use Rattle.refusals.specs.declared.Told.{Told}
 use Rattle.refusals.specs.Told.{refused}
-use Rattle.board.specs.Cells.{pence, scaled, flagAt, withdrawnAt}
-use Rattle.board.specs.Live.{live}
-use Rattle.board.specs.Sound.{Sound}
+use Rattle.supply.specs.Board.{placesAt}
+use Rattle.supply.specs.ByItem.{withdrawnAt, live}
+use Rattle.board.specs.Cells.{pence, scaled}
+use Rattle.supply.specs.Sound.{Sound}
 use Rattle.board.specs.Ranges.{SlackIn, slackTest}
-use Rattle.board.specs.SoundTest.{soundTest}
+use Rattle.supply.specs.SoundTest.{soundTest}
 use Rattle.refusals.specs.Demand1.{Check, checkFor, firstOf}
 use Rattle.refusals.specs.Each.{cellChecks}
 use Rattle.board.specs.Lent.{Lists}
@@ -31,24 +32,24 @@ use Rattle.matching.specs.Clash.{Clashes, clashChecks}
 -- ---- The rows of the table, in its words. The lists are read by cell: bidder i + 1 is cell i, item k + 1 is cell k.
 
 -- "a list to be checked has another length": a cell per bidder, per item, per bidder
-pub record Even (b : Auction) (l : Lists) : Type 0 where
+pub record Even (b : Board) (l : Lists) : Type 0 where
   pub plan : length (l .plan) ≡ b .market .arrived
-  pub prices : length (l .prices) ≡ b .market .items
+  pub prices : length (l .prices) ≡ b .items .count
   pub gains : length (l .gains) ≡ b .market .arrived
 
 -- "above 1,000,000,000, or a withdrawn kettle's not 0"
-pub data PriceBad (b : Auction) (prices : ℕ → ℕ) (k : ℕ) : Type 0 where
+pub data PriceBad (b : Board) (prices : ℕ → ℕ) (k : ℕ) : Type 0 where
   high : maxPrice < prices k → PriceBad b prices k
   gone : withdrawnAt b k ≡ true → 0 < prices k → PriceBad b prices k
 
 -- "a live entry not covered"
-pub record Uncovered (b : Auction) (p q : ℕ) (prices gains : ℕ → ℕ) (i : ℕ) : Type 0 where
+pub record Uncovered (b : Board) (p q : ℕ) (prices gains : ℕ → ℕ) (i : ℕ) : Type 0 where
   pub item : ℕ
-  pub below : item < b .market .items
+  pub below : item < b .items .count
   pub edge : 0 < live b i item
   pub short : gains i + prices item < (q - p) * live b i item
 
-pub data CheckMet (b : Auction) (l : Lists) (p q : ℕ) : Refusal → Type 0 where
+pub data CheckMet (b : Board) (l : Lists) (p q : ℕ) : Refusal → Type 0 where
   -- "the board handed in is not sound"
   spoilt : (Sound b → ⊥) → CheckMet b l p q Spoilt
   -- "p or q outside its range", here with p from 0
@@ -57,8 +58,8 @@ pub data CheckMet (b : Auction) (l : Lists) (p q : ℕ) : Refusal → Type 0 whe
   -- The place is the bidder's number
   clash : {i : ℕ} → i < b .market .arrived → Clashes b (cells (l .plan)) i → CheckMet b l p q (Clash (suc i))
   -- The place is the item's number, "or k + batch for a gain"
-  price : {k : ℕ} → k < b .market .items → PriceBad b (cells (l .prices)) k → CheckMet b l p q (Price (suc k))
-  gain : (i : ℕ) → i < b .market .arrived → maxPrice < cells (l .gains) i → CheckMet b l p q (Price (b .market .items + suc i))
+  price : {k : ℕ} → k < b .items .count → PriceBad b (cells (l .prices)) k → CheckMet b l p q (Price (suc k))
+  gain : (i : ℕ) → i < b .market .arrived → maxPrice < cells (l .gains) i → CheckMet b l p q (Price (b .items .count + suc i))
   bare : {i : ℕ} → i < b .market .arrived → Uncovered b p q (cells (l .prices)) (cells (l .gains)) i → CheckMet b l p q (Bare (suc i))
 
 -- Prices or gains that are all within the limit
@@ -72,11 +73,11 @@ evenTest bidders items plan prices gains = eqb plan bidders && (eqb prices items
 
 -- Refusal 10 is that of the crate matching, `clashChecks`
 
--- Refusal 11: the prices of n items against the flags of the withdrawn ones, and the gains of n bidders
-unfoldable pub priceTest : List ℕ → (ℕ → ℕ) → ℕ → Bool
-priceTest withdrawn prices k = leb (prices k) maxPrice && (not (flagAt withdrawn k) || eqb (prices k) 0)
+-- Refusal 11: the prices of n items, of which some are withdrawn, and the gains of n bidders
+unfoldable pub priceTest : (ℕ → Bool) → (ℕ → ℕ) → ℕ → Bool
+priceTest withdrawn prices k = leb (prices k) maxPrice && (not (withdrawn k) || eqb (prices k) 0)
 
-abbrev pub priceChecks : List ℕ → (ℕ → ℕ) → ℕ → List Check
+abbrev pub priceChecks : (ℕ → Bool) → (ℕ → ℕ) → ℕ → List Check
 priceChecks withdrawn prices n = cellChecks (λ k. Price (suc k)) (priceTest withdrawn prices) n
 
 abbrev pub gainChecks : ℕ → (ℕ → ℕ) → ℕ → List Check
@@ -90,33 +91,33 @@ coveredTest items row p q prices y = allBelow items (λ k. leb ((q - p) * row k)
 abbrev pub bareChecks : ℕ → (ℕ → ℕ → ℕ) → ℕ → ℕ → (ℕ → ℕ) → (ℕ → ℕ) → ℕ → List Check
 bareChecks items w p q prices gains n = cellChecks (λ i. Bare (suc i)) (λ i. coveredTest items (w i) p q prices (gains i)) n
 
--- The lists themselves: "10, 11, 12". Of so many bidders and items, the flags of the withdrawn items, and the live weights w
-unfoldable pub listChecks : ℕ → ℕ → List ℕ → (ℕ → ℕ → ℕ) → Lists → ℕ → ℕ → List Check
-listChecks bidders items withdrawn w l p q =
-    clashChecks items w (cells (l .plan)) bidders ++
+-- The lists themselves: "10, 11, 12". Of so many bidders and items, the places of each, which are withdrawn, and the live weights w
+unfoldable pub listChecks : ℕ → ℕ → (ℕ → ℕ) → (ℕ → Bool) → (ℕ → ℕ → ℕ) → Lists → ℕ → ℕ → List Check
+listChecks bidders items count withdrawn w l p q =
+    clashChecks items count w (cells (l .plan)) bidders ++
     (priceChecks withdrawn (cells (l .prices)) items ++
     (gainChecks items (cells (l .gains)) bidders ++
     bareChecks items w p q (cells (l .prices)) (cells (l .gains)) bidders))
 
 -- The checks after that of soundness, and all
-unfoldable pub checkRest : Auction → Lists → ℕ → ℕ → List Check
+unfoldable pub checkRest : Board → Lists → ℕ → ℕ → List Check
 checkRest b l p q =
     checkFor Slack (not (slackTest 0 p q)) ∷
-    (checkFor Uneven (not (evenTest (b .market .arrived) (b .market .items) (length (l .plan)) (length (l .prices)) (length (l .gains)))) ∷
-    listChecks (b .market .arrived) (b .market .items) (b .market .withdrawn) (live b) l p q)
+    (checkFor Uneven (not (evenTest (b .market .arrived) (b .items .count) (length (l .plan)) (length (l .prices)) (length (l .gains)))) ∷
+    listChecks (b .market .arrived) (b .items .count) (placesAt b) (withdrawnAt b) (live b) l p q)
 
-abbrev pub checkChecks : Auction → Lists → ℕ → ℕ → List Check
+abbrev pub checkChecks : Board → Lists → ℕ → ℕ → List Check
 checkChecks b l p q = checkFor Spoilt (not (soundTest b)) ∷ checkRest b l p q
 
--- ---- "It answers the plan's worth and the sum of prices and gains"
+-- ---- "It answers the plan's worth and the sum of prices and gains"; "the check and exact level count a kettle's price once per place" (document 02, R-6)
 
-unfoldable pub checkBy : Auction → Lists → Verdict → Checked
+unfoldable pub checkBy : Board → Lists → Verdict → Checked
 checkBy b l Verdict.Served =
-    Checked.Totals (pence (weightOf (b .market .arrived) (live b) (cells (l .plan)))) (scaled (total (b .market .arrived) (b .market .items) (cells (l .prices)) (cells (l .gains))))
+    Checked.Totals (pence (weightOf (b .market .arrived) (live b) (cells (l .plan)))) (scaled (totalWith (b .market .arrived) (b .items .count) (placesAt b) (cells (l .prices)) (cells (l .gains))))
 checkBy b l (Verdict.Refused r) = Checked.Refused r
 
 -- The lists are only read, and the board is taken by value
-unfoldable pub checkOf : Auction → Lists → ℕ → ℕ → Checked
+unfoldable pub checkOf : Board → Lists → ℕ → ℕ → Checked
 checkOf b l p q = checkBy b l (firstOf (checkChecks b l p q))
 
 -- ---- What is told: number 0 with the two totals, or the refusal without them

@@ -6,7 +6,7 @@ use mathlib.Core.Logic.{_↔_}
 use Prim.Native.Nat.{ℕ, suc}
 use lib.ListN.{length}
 use Rattle.duality.specs.Lists.{cells}
-use Rattle.duality.specs.Tests.{cellTest}
+use Rattle.places.specs.PlanTest.{cellTestWith}
 use Rattle.duality.proofs.Decide.{reword, eq-decides, false-is, clash}
 use Rattle.refusals.specs.declared.Refusal.{Refusal}
 use Rattle.refusals.specs.declared.Refusal.the-variants.{Uneven, Clash, Spoilt}
@@ -16,12 +16,13 @@ use Rattle.refusals.specs.Demand1.{codesOf, firstOf}
 use Rattle.refusals.specs.Each.{placesOf}
 use Rattle.refusals.proofs.Verdicts.{Decided, next, refuses, serves, served-by, refused-by, first-on, first-stops, served-both}
 use Rattle.refusals.proofs.Places.{test-served, test-serves, cells-decide, cells-codes, codes-both}
-use Rattle.board.specs.declared.record.Auction.{Auction}
-use Rattle.board.specs.Live.{live}
-use Rattle.board.specs.Sound.{Sound}
-use Rattle.board.specs.SoundTest.{soundTest}
+use Rattle.supply.specs.declared.record.Board.{Board}
+use Rattle.supply.specs.Board.{placesAt}
+use Rattle.supply.specs.ByItem.{live}
+use Rattle.supply.specs.Sound.{Sound}
+use Rattle.supply.specs.SoundTest.{soundTest}
 use Rattle.board.proofs.Tests.{no-decides}
-use Rattle.board.proofs.SoundLaw.{sound-decides}
+use Rattle.supply.proofs.SoundLaw.{sound-decides}
 use Rattle.matching.specs.Clash.{Clashes, clashChecks}
 use Rattle.matching.specs.Plans.{PlanOn}
 use Rattle.matching.proofs.Clashes.{clashes-tested, unclashed-matches}
@@ -31,7 +32,7 @@ use Rattle.comparison.proofs.Outcomes.{plansOn, told-refused, by-refuse
 
 -- ---- One plan
 
-module _ (b : Auction) (plan : List ℕ) where
+module _ (b : Board) (plan : List ℕ) where
   uneven-met : PlanMet b plan Uneven → length plan ≡ b .market .arrived → ⊥
   uneven-met (PlanMet.uneven f) = f
 
@@ -41,20 +42,20 @@ module _ (b : Auction) (plan : List ℕ) where
   plan-decided : Decided (PlanMet b plan) (planChecksOn b plan)
   plan-decided =
       next (reword (no-decides (eq-decides (length plan) (b .market .arrived))) (λ f. PlanMet.uneven f) uneven-met)
-      (cells-decide _ (λ i. cellTest (b .market .items) (live b) (cells plan) i (cells plan i)) (b .market .arrived)
+      (cells-decide _ (λ i. cellTestWith (b .items .count) (placesAt b) (live b) (cells plan) i (cells plan i)) (b .market .arrived)
       (λ i h. reword (clashes-tested b (cells plan) i) (λ x. PlanMet.clash h x) (clash-met i)))
 
   -- Nothing is met exactly when it is a plan on the live sheet
   plan-served : (firstOf (planChecksOn b plan) ≡ Served) ↔ PlanOn b plan
   plan-served = (
     λ e. let (size, rest) = test-served _ _ _ e in
-        record { size = eq-decides (length plan) (b .market .arrived) .sound size; matches = unclashed-matches _ _ _ _ .0 rest },
-    λ p. test-serves _ _ _ (eq-decides (length plan) (b .market .arrived) .complete (p .size)) (unclashed-matches _ _ _ _ .1 (p .matches)),
+        record { size = eq-decides (length plan) (b .market .arrived) .sound size; matches = unclashed-matches _ _ _ _ _ .0 rest },
+    λ p. test-serves _ _ _ (eq-decides (length plan) (b .market .arrived) .complete (p .size)) (unclashed-matches _ _ _ _ _ .1 (p .matches)),
   )
 
 -- ---- The board, and two plans
 
-module _ (b : Auction) (first second : List ℕ) where
+module _ (b : Board) (first second : List ℕ) where
   -- The verdict of a sound board is that of the plans
   verdict-sound : Sound b → firstOf (compareChecks b first second) ≡ firstOf (plansOn b first second)
   unfolding firstOf
@@ -144,9 +145,17 @@ compares-plans b first second = (
   λ t. served-told b first second .1 (all-served b first second .1 (t .sound, plan-served b first .1 (t .first), plan-served b second .1 (t .second))),
 )
 
-tens : (b : Auction) (plan : List ℕ) → codesOf (clashChecks (b .market .items) (live b) (cells plan) (b .market .arrived)) ≡ placesOf 10 1 (b .market .arrived)
+tens : (b : Board) (plan : List ℕ) →
+    codesOf (clashChecks (b .items .count) (placesAt b) (live b) (cells plan) (b .market .arrived)) ≡ placesOf 10 1 (b .market .arrived)
 tens b plan =
-    cells-codes (λ i. Clash (suc i)) (λ i. cellTest (b .market .items) (live b) (cells plan) i (cells plan i)) 10 suc (λ j. refl) (λ j. refl) (b .market .arrived)
+    cells-codes
+    (λ i. Clash (suc i))
+    (λ i. cellTestWith (b .items .count) (placesAt b) (live b) (cells plan) i (cells plan i))
+    10
+    suc
+    (λ j. refl)
+    (λ j. refl)
+    (b .market .arrived)
 
 pub compare-order : CompareOrder
 unfolding plansChecks

@@ -8,8 +8,8 @@ use native.Mathlib.Omega.{arith}
 use lib.Seq.{ext-getD}
 use Rattle.duality.specs.Lists.{cells}
 use Rattle.duality.proofs.Agree.{weight-as}
-use Rattle.board.specs.declared.record.Auction.{Auction}
-use Rattle.board.specs.Live.{live}
+use Rattle.supply.specs.declared.record.Board.{Board}
+use Rattle.supply.specs.ByItem.{live}
 use Rattle.matching.specs.Plans.{PlanOn, weightOn}
 use Rattle.comparison.specs.declared.order.Ordering.{Ordering}
 use Rattle.comparison.specs.declared.order.Ordering.the-variants.{Earlier, Same, Later}
@@ -22,7 +22,7 @@ use Rattle.comparison.proofs.Standing.{Stands, stands}
 differ : {A : Type 0} (o p : Ordering) → o ≡ p → (orderNumber o ≡ orderNumber p → ⊥) → A
 differ o p e f = absurd (f (ap orderNumber e))
 
-module _ (b : Auction) where
+module _ (b : Board) where
   -- ---- What precedes
 
   weight-same : (first second : List ℕ) → SameCells b first second → weightOn b first ≡ weightOn b second

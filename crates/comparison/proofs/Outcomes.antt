@@ -17,9 +17,10 @@ use Rattle.refusals.specs.Told.{refused}
 use Rattle.refusals.specs.Demand1.{Check, firstOf}
 use Rattle.refusals.proofs.Verdicts.{codes-apart}
 use Rattle.refusals.proofs.Answers.{numbered}
-use Rattle.board.specs.declared.record.Auction.{Auction}
-use Rattle.board.specs.Live.{live}
-use Rattle.board.specs.SoundTest.{soundTest}
+use Rattle.supply.specs.declared.record.Board.{Board}
+use Rattle.supply.specs.Board.{placesAt}
+use Rattle.supply.specs.ByItem.{live}
+use Rattle.supply.specs.SoundTest.{soundTest}
 use Rattle.matching.specs.Clash.{clashChecks}
 use Rattle.comparison.specs.declared.order.Ordering.{Ordering}
 use Rattle.comparison.specs.declared.order.Ordering.the-variants.{Earlier, Same, Later}
@@ -29,18 +30,18 @@ use Rattle.comparison.specs.Compare.{planChecks, plansChecks, compareBy,
 use Rattle.comparison.specs.Demand1.{ComparedApart}
 
 -- Refusals 9 and 10 of two plans, on a board
-abbrev pub plansOn : Auction → List ℕ → List ℕ → List Check
-plansOn b = plansChecks (b .market .arrived) (b .market .items) (live b)
+abbrev pub plansOn : Board → List ℕ → List ℕ → List Check
+plansOn b = plansChecks (b .market .arrived) (b .items .count) (placesAt b) (live b)
 
 -- One plan: 9, or 10 alone
-module _ (bidders items : ℕ) (w : ℕ → ℕ → ℕ) (plan : List ℕ) where
-  pub plan-uneven : (length plan ≡ bidders → ⊥) → Refused Uneven ≡ firstOf (planChecks bidders items w plan)
+module _ (bidders items : ℕ) (count : ℕ → ℕ) (w : ℕ → ℕ → ℕ) (plan : List ℕ) where
+  pub plan-uneven : (length plan ≡ bidders → ⊥) → Refused Uneven ≡ firstOf (planChecks bidders items count w plan)
   unfolding firstOf
   plan-uneven ne = rw (ne-eqb (length plan) bidders ne)
 
-  pub plan-even : length plan ≡ bidders → firstOf (clashChecks items w (cells plan) (length plan)) ≡ firstOf (planChecks bidders items w plan)
+  pub plan-even : length plan ≡ bidders → firstOf (clashChecks items count w (cells plan) (length plan)) ≡ firstOf (planChecks bidders items count w plan)
   unfolding firstOf
-  plan-even e = rw (eq-eqb (length plan) bidders e) (ap (λ n. firstOf (clashChecks items w (cells plan) n)) e)
+  plan-even e = rw (eq-eqb (length plan) bidders e) (ap (λ n. firstOf (clashChecks items count w (cells plan) n)) e)
 
 -- ---- What is told names the answer
 
@@ -73,7 +74,7 @@ told-apart (Compared.Refused r) (Compared.Plans e p) h = sym (told-refused (Comp
 pub compared-apart : ComparedApart
 compared-apart = record { answers = told-apart; orders = orders-numbered }
 
-module _ (b : Auction) (first second : List ℕ) where
+module _ (b : Board) (first second : List ℕ) where
   pub by-refused : (r : Refusal) (v : Verdict) → compareBy b first second v ≡ Compared.Refused r → v ≡ Refused r
   unfolding compareBy
   by-refused r Served e = let z : _≡_ {A = ℕ} 0 1 = cc in absurd (omega arith)

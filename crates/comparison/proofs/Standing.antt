@@ -8,7 +8,7 @@ use native.Mathlib.Numerals.{add-one}
 use native.Mathlib.Omega.{arith}
 use borrow.Author.Tests.{lt-ltb, le-ltb}
 use Rattle.duality.specs.Lists.{cells}
-use Rattle.board.specs.declared.record.Auction.{Auction}
+use Rattle.supply.specs.declared.record.Board.{Board}
 use Rattle.matching.specs.Plans.{weightOn}
 use Rattle.comparison.specs.declared.order.Ordering.{Ordering}
 use Rattle.comparison.specs.declared.order.Ordering.the-variants.{Earlier, Same, Later}
@@ -65,12 +65,12 @@ module _ (first second : ℕ → ℕ) where
 
 -- ---- Plans
 
-pub data Stands (b : Auction) (first second : List ℕ) : Ordering → Type 0 where
+pub data Stands (b : Board) (first second : List ℕ) : Ordering → Type 0 where
   before : Precedes b first second → Stands b first second Earlier
   behind : Precedes b second first → Stands b first second Later
   alike : SameCells b first second → Stands b first second Same
 
-pub stands : (b : Auction) (first second : List ℕ) → Stands b first second (orderOf b first second)
+pub stands : (b : Board) (first second : List ℕ) → Stands b first second (orderOf b first second)
 stands b first second =
     smaller-cases (weightOn b second) (weightOn b first) (cellsOrder (cells first) (cells second) 0 (b .market .arrived)) (Stands b first second)
     (λ l. Stands.before (Precedes.heavier l))

@@ -7,11 +7,12 @@ use crate::difference::difference;
 use crate::order::Ordering;
 use crate::order::plans_order;
 use crate::verdict::plans_verdict;
-use board::record::Auction;
-use board::sound::is_sound_in;
 use matching::weight::plan_weight;
 use refusals::Refusal;
 use refusals::Verdict;
+use supply::record::Board;
+use supply::shape::starts_of;
+use supply::sound::is_sound_in;
 ghost use mathlib.Core.Path.{_≡_};
 ghost use Rattle.comparison.specs.Compare.{compareOf};
 
@@ -31,25 +32,28 @@ pub struct Comparison {
 }
 
 // Compares two plans on a board's live edges.
-pub fn compare(auction: Auction, first: &[u64], second: &[u64]) -> Compared
-    ensures { λ r. ⌜ r ≡ compareOf auction (now (first .entry)) (now (second .entry)) ⌝ }
+pub fn compare(board: Board, first: &[u64], second: &[u64]) -> Compared
+    ensures { λ r. ⌜ r ≡ compareOf board (now (first .entry)) (now (second .entry)) ⌝ }
 {
-    let market = auction.market;
-    let state = auction.state;
-    if !is_sound_in(market, &auction.weights, state) {
+    let items = board.items;
+    let market = board.market;
+    let state = board.state;
+    if !is_sound_in(items, market, &board.weights, state) {
         return Compared::Refused(Refusal::Spoilt);
     }
+    let starts = starts_of(items);
     let verdict = plans_verdict(
-        &auction.weights,
+        items,
+        &starts,
+        &board.weights,
         &market.withdrawn,
         market.arrived as usize,
-        market.items,
         first,
         second,
     );
     let Verdict::Refused(refusal) = verdict else {
-        let weight = plan_weight(&auction.weights, &market.withdrawn, first);
-        let other = plan_weight(&auction.weights, &market.withdrawn, second);
+        let weight = plan_weight(items, &starts, &board.weights, &market.withdrawn, first);
+        let other = plan_weight(items, &starts, &board.weights, &market.withdrawn, second);
         let order = plans_order(weight, other, first, second);
         return Compared::Plans(difference(weight, other), order);
     };

@@ -2,15 +2,15 @@
 use mathlib.Core.Path.{_≡_}
 use mathlib.Core.List.{List}
 use Prim.Native.Nat.{ℕ}
-use Rattle.board.specs.declared.record.Auction.{Auction}
+use Rattle.supply.specs.declared.record.Board.{Board}
 use Rattle.refusals.specs.declared.Told.{Told}
-use Rattle.board.specs.declared.opening.Opening.{Opening}
+use Rattle.supply.specs.declared.opening.Opening.{Opening}
 use Rattle.auction.specs.declared.arrive.Arrival.{Arrival}
 use Rattle.auction.specs.declared.withdraw.Withdrawal.{Withdrawal}
 use Rattle.replay.specs.declared.Replayed.{Replayed}
 use Rattle.bidding.specs.Rule.{Outcome, done, spent}
 use Rattle.board.specs.Lent.{Lists}
-use Rattle.board.specs.Opening.{openedTold}
+use Rattle.supply.specs.Opening.{openedTold}
 use Rattle.auction.specs.Arrive.{arrivedTold}
 use Rattle.auction.specs.Withdraw.{withdrawnTold}
 use Rattle.auction.specs.ReadOut.{ReadOutcome, readOutTold}
@@ -24,7 +24,7 @@ use Rattle.page.specs.Writing.{WriteOutcome, writtenTold}
 use Rattle.page.specs.Reading.{RowsOutcome, readTold}
 use Rattle.exports.specs.declared.answers.Answer.{Answer}
 
-abbrev pub withBoard : Auction → Told → Answer
+abbrev pub withBoard : Board → Told → Answer
 withBoard b t = record { board = b; number = t .number; place = t .place; value = t .value }
 
 -- An outcome, told
@@ -35,16 +35,16 @@ answered f spent = spent
 -- ---- The calls that answer a board
 
 abbrev pub openAnswer : Opening → Answer
-openAnswer o = withBoard (o .auction) (openedTold (o .answer))
+openAnswer o = withBoard (o .board) (openedTold (o .answer))
 
 abbrev pub arrivalAnswer : Arrival → Answer
-arrivalAnswer a = withBoard (a .auction) (arrivedTold (a .answer))
+arrivalAnswer a = withBoard (a .board) (arrivedTold (a .answer))
 
 abbrev pub withdrawalAnswer : Withdrawal → Answer
-withdrawalAnswer w = withBoard (w .auction) (withdrawnTold (w .answer))
+withdrawalAnswer w = withBoard (w .board) (withdrawnTold (w .answer))
 
 abbrev pub replayAnswer : Replayed → Answer
-replayAnswer r = withBoard (r .auction) (endingTold (r .answer) (r .bids))
+replayAnswer r = withBoard (r .board) (endingTold (r .answer) (r .bids))
 
 -- ---- The calls that write lists of numbers
 
@@ -60,7 +60,7 @@ abbrev pub readOutAnswer : ReadOutcome → ToldLists
 readOutAnswer o = toldLists (readOutTold (o .answer)) (o .lists)
 
 -- The exact call's outcome, and its answer told
-pub record ExactAnswer (b : Auction) (before : Lists) (told : Told) (after : Lists) : Type 0 where
+pub record ExactAnswer (b : Board) (before : Lists) (told : Told) (after : Lists) : Type 0 where
   pub answer : Greatest
   pub outcome : ExactOutcome b before answer after
   pub tells : told ≡ exactTold answer

@@ -4,9 +4,6 @@ use auction::arrive::Arrived;
 use auction::read_out::ReadOut;
 use auction::withdraw::Withdrawal;
 use auction::withdraw::Withdrawn;
-use board::opening::Opened;
-use board::opening::Opening;
-use board::record::Auction;
 use certificate::Checked;
 use certificate::Totals;
 use comparison::Compared;
@@ -20,9 +17,12 @@ use refusals::Refusal;
 use refusals::Told;
 use replay::Ending;
 use replay::Replayed;
+use supply::opening::Opened;
+use supply::opening::Opening;
+use supply::record::Board;
 ghost use mathlib.Core.Path.{_≡_};
 ghost use Rattle.refusals.specs.Told.{served, refused, refusedAt};
-ghost use Rattle.board.specs.Opening.{openedTold};
+ghost use Rattle.supply.specs.Opening.{openedTold};
 ghost use Rattle.auction.specs.Arrive.{arrivedTold};
 ghost use Rattle.auction.specs.Withdraw.{withdrawnTold};
 ghost use Rattle.auction.specs.ReadOut.{readOutTold};
@@ -38,7 +38,7 @@ ghost use Rattle.exports.specs.Answers.{withBoard, openAnswer, arrivalAn
 // What a call answers in numbers, beside a board.
 #[repr(C)]
 pub struct Answer {
-    pub board: Auction,
+    pub board: Board,
     pub number: u64,
     pub place: u64,
     pub value: u64,
@@ -74,7 +74,7 @@ fn refusing(refusal: Refusal) -> Told
 }
 
 // What is told, beside a board.
-fn beside(board: Auction, told: Told) -> Answer
+fn beside(board: Board, told: Told) -> Answer
     ensures { λ r. ⌜ r ≡ withBoard board told ⌝ }
 {
     Answer {
@@ -98,7 +98,7 @@ fn opened_told(answer: Opened) -> Told
 pub(crate) fn open_answer(opening: Opening) -> Answer
     ensures { λ r. ⌜ r ≡ openAnswer opening ⌝ }
 {
-    let board = opening.auction;
+    let board = opening.board;
     let answer = opening.answer;
     beside(board, opened_told(answer))
 }
@@ -116,7 +116,7 @@ fn arrived_told(answer: Arrived) -> Told
 pub(crate) fn arrival_answer(arrival: Arrival) -> Answer
     ensures { λ r. ⌜ r ≡ arrivalAnswer arrival ⌝ }
 {
-    let board = arrival.auction;
+    let board = arrival.board;
     let answer = arrival.answer;
     beside(board, arrived_told(answer))
 }
@@ -134,7 +134,7 @@ fn withdrawn_told(answer: Withdrawn) -> Told
 pub(crate) fn withdrawal_answer(withdrawal: Withdrawal) -> Answer
     ensures { λ r. ⌜ r ≡ withdrawalAnswer withdrawal ⌝ }
 {
-    let board = withdrawal.auction;
+    let board = withdrawal.board;
     let answer = withdrawal.answer;
     beside(board, withdrawn_told(answer))
 }
@@ -229,7 +229,7 @@ fn ending_told(answer: Ending, bids: u64) -> Told
 pub(crate) fn replay_answer(replayed: Replayed) -> Answer
     ensures { λ r. ⌜ r ≡ replayAnswer replayed ⌝ }
 {
-    let board = replayed.auction;
+    let board = replayed.board;
     let answer = replayed.answer;
     beside(board, ending_told(answer, replayed.bids))
 }

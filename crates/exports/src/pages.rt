@@ -2,11 +2,11 @@
 use crate::answers::page_read_told;
 use crate::answers::page_written_told;
 use crate::answers::planned_told;
-use board::record::Auction;
 use history::wall::page_text;
 use page::reading::read_page;
 use page::writing::write_page;
 use refusals::Told;
+use supply::record::Board;
 ghost use mathlib.Core.Path.{_≡_};
 ghost use Rattle.layout.specs.Stored.{rowLists};
 ghost use Rattle.page.specs.Writing.{writePageOf};
@@ -17,7 +17,7 @@ ghost use Rattle.exports.specs.Answers.{toldBytes, planAnswer, writeAnsw
 
 // Writes the page of a board. The value is the number of bytes.
 #[no_mangle]
-pub extern "C" fn noughtelm_write_page(board: Auction, page: &mut [u8]) -> Told
+pub extern "C" fn noughtelm_write_page(board: Board, page: &mut [u8]) -> Told
     ensures { λ r. ⌜ toldBytes r (now (page .exit)) ≡ writeAnswer (writePageOf board (now (page .entry))) ⌝ }
 {
     let written = write_page(board, page);

@@ -2,13 +2,13 @@
 use crate::answers::comparison_of;
 use crate::answers::exact_told;
 use crate::answers::totals_of;
-use board::record::Auction;
 use certificate::Totals;
 use certificate::check;
 use comparison::Comparison;
 use comparison::compare;
 use hungarian::exact::exact;
 use refusals::Told;
+use supply::record::Board;
 ghost use mathlib.Core.Path.{_≡_};
 ghost use Rattle.board.specs.Lent.{lists};
 ghost use Rattle.certificate.specs.Check.{checkOf, checkedTold};
@@ -18,7 +18,7 @@ ghost use Rattle.exports.specs.Answers.{ExactAnswer};
 // Writes a matching of greatest weight, and prices and gains that show it, into three lent lists. The value is that weight.
 #[no_mangle]
 pub extern "C" fn noughtelm_exact(
-    board: Auction,
+    board: Board,
     plan: &mut [u64],
     prices: &mut [u64],
     gains: &mut [u64],
@@ -32,7 +32,7 @@ pub extern "C" fn noughtelm_exact(
 // Checks a matching, prices and gains against a board's live edges at a slack p/q.
 #[no_mangle]
 pub extern "C" fn noughtelm_check(
-    board: Auction,
+    board: Board,
     plan: &[u64],
     prices: &[u64],
     gains: &[u64],
@@ -47,7 +47,7 @@ pub extern "C" fn noughtelm_check(
 
 // Compares two plans on a board's live edges.
 #[no_mangle]
-pub extern "C" fn noughtelm_compare(board: Auction, first: &[u64], second: &[u64]) -> Comparison
+pub extern "C" fn noughtelm_compare(board: Board, first: &[u64], second: &[u64]) -> Comparison
     ensures { λ r. ⌜ r ≡ comparedTold (compareOf board (now (first .entry)) (now (second .entry))) ⌝ }
 {
     let answer = compare(board, first, second);

@@ -7,9 +7,10 @@ use lib.IntN.{pos, negℤ}
 use lib.ListN.{take}
 use lib.Seq.{length-take-le}
 use Rattle.duality.specs.Lists.{cells}
-use Rattle.duality.proofs.Agree.{weight-as, matching-as}
-use Rattle.board.specs.declared.record.Auction.{Auction}
-use Rattle.board.specs.Live.{live}
+use Rattle.duality.proofs.Agree.{weight-as}
+use Rattle.places.proofs.EqualExactlyWhenBestWith.{plan-as}
+use Rattle.supply.specs.declared.record.Board.{Board}
+use Rattle.supply.specs.ByItem.{live}
 use Rattle.hungarian.specs.Exact.{greatestOn, Shows}
 use Rattle.hungarian.specs.Demand3.{ShowsBest}
 use Rattle.hungarian.proofs.Exacts.{exact-is-best, exact-gives-demand-3}
@@ -21,7 +22,7 @@ use Rattle.guarantees.specs.BesideExact.{NoDifferenceBest}
 use Rattle.guarantees.proofs.Bounds.{cut-cell}
 
 -- So much less, or none
-fall : (b : Auction) (first second : List ℕ) (d : ℕ) → weightOn b second ≡ weightOn b first + d → differenceOf b first second ≡ negℤ (pos d)
+fall : (b : Board) (first second : List ℕ) (d : ℕ) → weightOn b second ≡ weightOn b first + d → differenceOf b first second ≡ negℤ (pos d)
 fall b first second zero e = difference-exact b first second .none .1 (omega arith)
 fall b first second (suc d) e = difference-exact b first second .less d .1 e
 
@@ -55,5 +56,5 @@ no-difference-best b before after answer s room o plan on =
     left =
         record {
           size = length-take-le (b .market .arrived) (after .plan) (omega (arith, shown .plan .size, room .plan));
-          matches = matching-as cell (shown .matches);
+          matches = plan-as cell (shown .matches);
         }

@@ -4,7 +4,7 @@ use Rattle.auction.proofs.BySlides.{histories-by-slides}
 use Rattle.replay.proofs.ReplayLaws.{lines-reached, replay-reached}
 
 pub lines-by-slides : LinesBySlides
-lines-by-slides s n at b entries bids l = histories-by-slides b entries bids .0 (lines-reached s n at b entries bids l)
+lines-by-slides s n at g b entries bids l = histories-by-slides b entries bids .0 (lines-reached s n at g b entries bids l)
 
 pub replay-by-slides : ReplayBySlides
 replay-by-slides s b bids a = let t = replay-reached s b bids a in (t .entries, histories-by-slides b _ _ .0 (t .reached))

@@ -1,7 +1,16 @@
 -- The page, by citing the crates below.
 use Rattle.refusals.proofs.Verdicts.{codes-apart}
 use Rattle.refusals.proofs.Answers.{told-apart}
-use Rattle.board.proofs.SoundLaw.{sound-decides}
+use Rattle.places.proofs.PlaceLaws.{every-place-has-its-item, no-other-item, every-item-has-its-places, places-of-ones}
+use Rattle.places.proofs.Spread.{plan-spreads, matching-reads-back, plans-of-ones}
+use Rattle.places.proofs.SpreadCover.{cover-spreads, least-prices-cover, least-prices-total, total-of-ones}
+use Rattle.places.proofs.WeakDualityWith.{weak-duality-with}
+use Rattle.places.proofs.StrongDualityWith.{strong-duality-with}
+use Rattle.places.proofs.EqualExactlyWhenBestWith.{equal-exactly-when-best-lists-with}
+use Rattle.places.proofs.ShareWith.{share-with}
+use Rattle.places.proofs.GreatestWeightWith.{greatest-weight-with}
+use Rattle.supply.proofs.SoundLaw.{sound-decides}
+use Rattle.supply.proofs.ByItem.{places-as-item, sound-over-places, ones-as-auction}
 use Rattle.bidding.proofs.Choices.{best-is-chosen, chosen-once, ties-by-weight}
 use Rattle.bidding.proofs.Chains.{chain-once}
 use Rattle.bidding.proofs.Rolls.{displaced-in-order, order-once}
@@ -18,7 +27,7 @@ use Rattle.auction.proofs.EnoughItems.{enough-items}
 use Rattle.auction.proofs.OneItem.{one-as-before, none-changed}
 use Rattle.replay.proofs.LinePairs.{line-items}
 use Rattle.replay.proofs.Saying.{line-said, says-once, line-malformed}
-use Rattle.replay.proofs.ReplayLaws.{replay-ends, texts-demand-1, lines-reached, replay-reached, refused-before}
+use Rattle.replay.proofs.ReplayLaws.{replay-ends, texts-demand-1, lines-reached, lines-open, replay-reached, refused-before}
 use Rattle.hungarian.proofs.Exacts.{best-on, exact-is-best, exact-keeps, exact-gives-demand-3, exact-demand-1}
 use Rattle.certificate.proofs.Demand1.{check-demand-1, check-order}
 use Rattle.comparison.proofs.Demand1.{compare-demand-1, compare-order, compares-plans}
@@ -34,7 +43,7 @@ use Rattle.page.proofs.WriteLaws.{write-demand-1}
 use Rattle.page.proofs.ReadLaws.{read-demand-1}
 use Rattle.page.proofs.Demand1.{page-orders}
 use Rattle.page.proofs.Laws.{writes-said, reads-said, reads-back}
-use Rattle.guarantees.specs.Guarantees.{TableFirst, QuickBids, EqualPairs, KitchenPage, SteamLine, SideBySide, BidAsSlides, Guarantees}
+use Rattle.guarantees.specs.Guarantees.{TableFirst, QuickBids, EqualPairs, KitchenPage, SteamLine, SideBySide, BidAsSlides, MorePlaces, Guarantees}
 use Rattle.guarantees.proofs.Checks.{exact-accepted, equal-totals-best, read-out-accepted}
 use Rattle.guarantees.proofs.BesideExact.{no-difference-best}
 use Rattle.guarantees.proofs.BySlides.{lines-by-slides, replay-by-slides}
@@ -164,5 +173,30 @@ bid-as-slides =
       texts = replay-by-slides;
     }
 
+more-places : MorePlaces
+more-places =
+    record {
+      item = every-place-has-its-item;
+      only = no-other-item;
+      count = every-item-has-its-places;
+      ones = places-of-ones;
+      spreads = plan-spreads;
+      back = matching-reads-back;
+      plain = plans-of-ones;
+      covers = cover-spreads;
+      least = least-prices-cover;
+      never-more = least-prices-total;
+      sums = total-of-ones;
+      weak = weak-duality-with;
+      strong = strong-duality-with;
+      equal = equal-exactly-when-best-lists-with;
+      share = share-with;
+      greatest = greatest-weight-with;
+      places = places-as-item;
+      sound = sound-over-places;
+      as-before = ones-as-auction;
+      lines = lines-open;
+    }
+
 pub guarantees : Guarantees
-guarantees = record { demand1 = demand-1; demand2 = demand-2; demand3 = demand-3; page = kitchen-page; steam = steam-line; sides = side-by-side; slides = bid-as-slides }
+guarantees = record { demand1 = demand-1; demand2 = demand-2; demand3 = demand-3; page = kitchen-page; steam = steam-line; sides = side-by-side; slides = bid-as-slides; places = more-places }

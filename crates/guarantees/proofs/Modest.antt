@@ -15,12 +15,16 @@ use Rattle.board.specs.Cells.{scaled, scaledAt, priceAt, gainAt, holderAt, hold
 use Rattle.board.specs.Live.{live}
 use Rattle.board.specs.Sound.{Sound}
 use Rattle.bidding.specs.Rule.{placedAt, bidden, displaced, Chain, stays, takes, displaces}
-use Rattle.board.specs.Opening.{opened}
+use Rattle.board.specs.Opening as place
+use Rattle.supply.specs.declared.record.Board.{Board}
+use Rattle.supply.specs.Board.{auctionOf}
+use Rattle.supply.specs.Opening.{opened}
 use Rattle.bidding.specs.Moves.{entered, released}
 use Rattle.bidding.specs.Withdrawals.{displacedIf, vacated, vacatedTo, Chains, ended, next}
 use Rattle.auction.specs.Histories.{Reached, opens, arrives, withdraws}
 use Rattle.board.proofs.Light.{live-within}
-use Rattle.auction.proofs.Demand2.{rowOf, arrive-all, withdraw-all}
+use Rattle.auction.specs.Arrive.{rowOn}
+use Rattle.auction.proofs.Demand2.{arrive-all, withdraw-all}
 
 pub record Modest (b : Auction) : Type 0 where
   pub prices : (k : ℕ) → priceAt b k ≤ maxPrice
@@ -84,7 +88,7 @@ chains-modest : {b c : Auction} {xs : List ℕ} {n : ℕ} → Chains b xs c n �
 chains-modest ended l m = m
 chains-modest (next r t) l m = chains-modest t l (chain-modest r (chain-light r (chains-light t l)) m)
 
--- Items that go
+-- Places that go
 vacated-modest : {b : Auction} (k : ℕ) → Modest b → Modest (vacated b k)
 unfolding vacated displacedIf released
 vacated-modest {b} k m = go (holderOf (holderAt b k))
@@ -110,15 +114,15 @@ none-at zero k = refl
 none-at (suc n) zero = refl
 none-at (suc n) (suc k) = none-at n k
 
-pub reached-modest : {b : Auction} {e n : ℕ} → Reached b e n → Modest b
-unfolding opened
-reached-modest (opens items p q h) = record { prices = λ k. omega (arith, none-at maxItems k); gains = λ i. omega (arith, none-at maxBidders i) }
+pub reached-modest : {b : Board} {e n : ℕ} → Reached b e n → Modest (auctionOf b)
+unfolding opened place.opened
+reached-modest (opens items p q counts h) = record { prices = λ k. omega (arith, none-at maxItems k); gains = λ i. omega (arith, none-at maxBidders i) }
 reached-modest (arrives {b = b} edges r t h) =
     let m = reached-modest t in
-    arrive-all b edges (λ r. Modest (r .auction))
-    (λ j. let c = j .after .settles .chain in chain-modest c (chain-light c (sound-light (j .after .sound))) (entered-modest (rowOf edges) m))
+    arrive-all b edges (λ r. Modest (auctionOf (r .board)))
+    (λ j. let c = j .after .settles .chain in chain-modest c (chain-light c (sound-light (j .after .sound))) (entered-modest (rowOn (b .items) edges) m))
     (λ q. m)
     r h
 reached-modest (withdraws {b = b} items r t h) =
     let m = reached-modest t in
-    withdraw-all b items (λ r. Modest (r .auction)) (λ j. chains-modest (j .ends .chains) (sound-light (j .ends .sound)) (all-modest _ _ m)) (λ q. m) r h
+    withdraw-all b items (λ r. Modest (auctionOf (r .board))) (λ j. chains-modest (j .ends .chains) (sound-light (j .ends .sound)) (all-modest _ _ m)) (λ q. m) r h

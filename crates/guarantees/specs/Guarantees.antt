@@ -1,7 +1,16 @@
 -- The three demands, and what the customer's requests add, over what the calls mean. Each field is the sentence above it; the definitions that it names say the rest.
-use Rattle.board.specs.declared.record.Auction.{Auction}
-use Rattle.board.specs.Sound.{Sound}
-use Rattle.board.specs.SoundTest.{SoundTestDecides}
+use Rattle.supply.specs.declared.record.Board.{Board}
+use Rattle.supply.specs.Sound.{Sound}
+use Rattle.supply.specs.SoundTest.{SoundTestDecides}
+use Rattle.places.specs.PlaceLaws.{EveryPlaceHasItsItem, NoOtherItem, EveryItemHasItsPlaces, PlacesOfOnes}
+use Rattle.places.specs.Spread.{PlanSpreads, MatchingReadsBack, PlansOfOnes}
+use Rattle.places.specs.SpreadCover.{CoverSpreads, LeastPricesCover, LeastPricesTotal, TotalOfOnes}
+use Rattle.places.specs.WeakDualityWith.{WeakDualityWith}
+use Rattle.places.specs.StrongDualityWith.{StrongDualityWith}
+use Rattle.places.specs.EqualExactlyWhenBestWith.{EqualExactlyWhenBestListsWith}
+use Rattle.places.specs.ShareWith.{ShareWith}
+use Rattle.places.specs.GreatestWeightWith.{GreatestWeightWith}
+use Rattle.supply.specs.Laws.{PlacesAsItem, SoundOverPlaces, OnesAsAuction}
 use Rattle.refusals.specs.Codes.{CodesApart}
 use Rattle.refusals.specs.Told.{ToldApart}
 use Rattle.bidding.specs.RuleLaws.{BestIsChosen, ChosenOnce, TiesByWeight, ChainOnce}
@@ -15,7 +24,7 @@ use Rattle.auction.specs.Histories.{HistoryDemand2}
 use Rattle.auction.specs.BySlides.{ArriveBySlides, WithdrawBySlides, HistoriesBySlides}
 use Rattle.replay.specs.Says.{SaysOnce, LineSaid, LineMalformed}
 use Rattle.replay.specs.TextDemand1.{TextsDemand1}
-use Rattle.replay.specs.ReplayLaws.{ReplayEnds, LinesReached, ReplayReached, RefusedBefore, LineItems}
+use Rattle.replay.specs.ReplayLaws.{ReplayEnds, LinesReached, LinesOpen, ReplayReached, RefusedBefore, LineItems}
 use Rattle.hungarian.specs.Demand3.{EqualExactlyWhenBestOn, ExactGivesDemand3, ExactDemand1, ExactIsBest, ExactKeeps}
 use Rattle.certificate.specs.Demand1.{CheckDemand1, CheckOrder}
 use Rattle.comparison.specs.Demand1.{CompareDemand1, CompareOrder, ComparedApart, ComparesPlans}
@@ -104,7 +113,7 @@ pub record EqualPairs : Type 0 where
   -- "Take any sound board, any plan on its live sheet and any list of whole-penny prices and gains that covers that sheet, whoever made them. The plan's
   -- worth equals the list's sum exactly when every other plan on that sheet is worth at most as much and every other covering list sums to at least as
   -- much."
-  pub best : (b : Auction) → Sound b → EqualExactlyWhenBestOn b
+  pub best : (b : Board) → Sound b → EqualExactlyWhenBestOn b
   -- "For every sound board, given lists long enough, the exact level leaves, in the lists it was lent, a plan on the live sheet and a covering list whose
   -- two totals are equal, and returns that total." Both halves in one piece, of every outcome of the call
   pub exact : ExactGivesDemand3
@@ -199,6 +208,38 @@ pub record BidAsSlides : Type 0 where
   pub lines : LinesBySlides
   pub texts : ReplayBySlides
 
+-- R-6, double and triple kettles
+pub record MorePlaces : Type 0 where
+  -- "each place has its own price": every place belongs to one item, and an item has as many places as its count says; with one place each, places are items
+  pub item : EveryPlaceHasItsItem
+  pub only : NoOtherItem
+  pub count : EveryItemHasItsPlaces
+  pub ones : PlacesOfOnes
+  -- "A plan may name a kettle once per place": plans are the matchings over places, read by item, weight for weight; with one place each they are what
+  -- plans were
+  pub spreads : PlanSpreads
+  pub back : MatchingReadsBack
+  pub plain : PlansOfOnes
+  -- "count a kettle's price once per place": a cover by item is one by place with the same sum, and one by place, at "a kettle's least price", is one by
+  -- item that sums to no more; with one place each sums are what they were
+  pub covers : CoverSpreads
+  pub least : LeastPricesCover
+  pub never-more : LeastPricesTotal
+  pub sums : TotalOfOnes
+  -- Of any numbers of batches, kettles and places: no plan beats a cover, some pair is equal, equal exactly when best, the share, the greatest worth
+  pub weak : WeakDualityWith
+  pub strong : StrongDualityWith
+  pub equal : EqualExactlyWhenBestListsWith
+  pub share : ShareWith
+  pub greatest : GreatestWeightWith
+  -- "Soundness is read place by place": every place has the entries of its kettle and goes with it, and what holds by place holds by kettle
+  pub places : PlacesAsItem
+  pub sound : SoundOverPlaces
+  -- With one place each a board says by kettle what its auction says by place
+  pub as-before : OnesAsAuction
+  -- "After `K`, lines `P`, kettle, places may follow": the board that they open is the one that the call opens with those counts
+  pub lines : LinesOpen
+
 pub record Guarantees : Type 0 where
   pub demand1 : TableFirst
   pub demand2 : QuickBids
@@ -207,3 +248,4 @@ pub record Guarantees : Type 0 where
   pub steam : SteamLine
   pub sides : SideBySide
   pub slides : BidAsSlides
+  pub places : MorePlaces

@@ -12,7 +12,7 @@ use Rattle.refusals.specs.declared.Told.{Told}
 use Rattle.refusals.specs.Codes.{codeOf}
 use Rattle.refusals.specs.Told.{told, served, refusedAt}
 use Rattle.refusals.proofs.Answers.{served-apart}
-use Rattle.board.specs.declared.record.Auction.{Auction}
+use Rattle.supply.specs.declared.record.Board.{Board}
 use Rattle.bidding.specs.Rule.{done}
 use Rattle.replay.specs.declared.Ending.{Ending}
 use Rattle.replay.specs.declared.Replayed.{Replayed}
@@ -50,7 +50,7 @@ module _ (s out : List ℕ) where
   abbrev Fated : Type 0
   Fated = (o : PlanOutcome) × (planOf s out ≡ done o) × PlanFate o
 
-  by-room : {b : Auction} {entries bids : ℕ} → TextFinished s b entries bids → (x : Bool) → ltb (length out) (length (outputOf b bids)) ≡ x → Fated
+  by-room : {b : Board} {entries bids : ℕ} → TextFinished s b entries bids → (x : Bool) → ltb (length out) (length (outputOf b bids)) ≡ x → Fated
   by-room {b} {entries} {bids} t true q = let p = short t (ltb-true _ _ q) in (_, refused-plan p, refuses p)
   by-room {b} {entries} {bids} t false q =
       let p : PlanWritten s out (length (outputOf b bids)) (outputOf b bids ++ drop (length (outputOf b bids)) out) =

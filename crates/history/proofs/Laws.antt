@@ -10,12 +10,14 @@ use Rattle.text.specs.Limits.{maxLine}
 use Rattle.text.specs.Print.{lineOf}
 use Rattle.text.proofs.Decimals.{most}
 use Rattle.duality.proofs.Sums.{sumTo-term}
-use Rattle.duality.proofs.GreatestWeight.{greatest-weight}
-use Rattle.board.specs.declared.record.Auction.{Auction}
+use Rattle.places.proofs.GreatestWeightWith.{greatest-weight-with}
+use Rattle.supply.specs.declared.record.Board.{Board}
 use Rattle.board.specs.Limits.{maxItems, maxBidders, maxWeight}
-use Rattle.board.specs.Cells.{priceAt, gainAt, withdrawnAt}
-use Rattle.board.specs.Live.{live, matchingOf, matchingWeight}
-use Rattle.board.specs.Sound.{Sound}
+use Rattle.board.specs.Cells as place
+use Rattle.supply.specs.Board.{auctionOf, placesAt, startIn}
+use Rattle.supply.specs.ByItem.{withdrawnAt, gainAt, priceAt, live, matchingOf, matchingWeight}
+use Rattle.supply.specs.Sound.{Sound}
+use Rattle.supply.proofs.ByItem.{places-as-item, first-place, price-most}
 use Rattle.auction.proofs.Demand2.{sound-demand-2}
 use Rattle.auction.proofs.Histories.{history-demand-2}
 use Rattle.replay.proofs.ReplayLines.{bids-fit}
@@ -64,50 +66,61 @@ items-length zero w f l h = omega arith
 items-length (suc n) w f l h =
     rw length-append (omega (arith, items-length n w f (omega arith) (λ i u. h i (omega arith)), item-length (w n) (n + 1) (f n) (omega arith) (h n (omega arith))))
 
-matched-wide : (b : Auction) → Sound b → (i : ℕ) → i < b .market .arrived → Wide (matchingOf b i)
+matched-wide : (b : Board) → Sound b → (i : ℕ) → i < b .market .arrived → Wide (matchingOf b i)
 matched-wide b s i l = go (matchingOf b i) refl
   where
     go : (c : ℕ) → matchingOf b i ≡ c → Wide c
     go zero e = omega arith
-    go (suc k) e = omega (arith, s .matches .along i k l e .0, s .items .1)
+    go (suc k) e = omega (arith, sound-demand-2 b s .plan .along i k l e .0, s .laid .count .high)
 
-greatest-most : (b : Auction) → Sound b → greatestOn b ≤ maxBidders * maxWeight
-greatest-most b s = let g = greatest-weight (b .market .arrived) (b .market .items) (live b) .attained in subst (λ (x : ℕ). x ≤ maxBidders * maxWeight) (g .2) (weight-any b s (g .0) (g .1))
+greatest-most : (b : Board) → Sound b → greatestOn b ≤ maxBidders * maxWeight
+greatest-most b s = let g = greatest-weight-with (b .market .arrived) (b .items .count) (placesAt b) (live b) .attained in subst (λ (x : ℕ). x ≤ maxBidders * maxWeight) (g .2) (weight-any b s (g .0) (g .1))
 
-output-length : (b : Auction) (bids : ℕ) → Sound b → Wide bids → length (outputOf b bids) ≤ maxOutput
+price-wide : (b : Board) → Sound b → (k : ℕ) → k < b .items .count → Wide (priceAt b k)
+price-wide b s k l =
+    let first = first-place b k s l in
+    let p = startIn (b .items) k in
+    omega (
+      arith,
+      price-most b s k l p first,
+      sumTo-term (b .market .items) p (place.priceAt (auctionOf b)) (places-as-item b k p s l first .below),
+      sum-most-is b s,
+    )
+
+output-length : (b : Board) (bids : ℕ) → Sound b → Wide bids → length (outputOf b bids) ≤ maxOutput
 unfolding outputOf
 output-length b bids s w =
     let m = sum-most-is b s in
-    let prices : (k : ℕ) → k < b .market .items → Wide (priceAt b k) = λ k l. omega (arith, sumTo-term (b .market .items) k (priceAt b) l) in
+    let prices : (k : ℕ) → k < b .items .count → Wide (priceAt b k) = λ k l. price-wide b s k l in
     let gains : (i : ℕ) → i < b .market .arrived → Wide (gainAt b i) = λ i l. omega (arith, sumTo-term (b .market .arrived) i (gainAt b) l) in
     rw (length-append, length-append, length-append) (
     omega (
       arith,
-      bidders-length (b .market .arrived) (matchingOf b) (gainAt b) (s .arrived) (λ i l. (matched-wide b s i l, gains i l)),
-      items-length (b .market .items) (withdrawnAt b) (priceAt b) (s .items .1) prices,
+      bidders-length (b .market .arrived) (matchingOf b) (gainAt b) (s .auction .arrived) (λ i l. (matched-wide b s i l, gains i l)),
+      items-length (b .items .count) (withdrawnAt b) (priceAt b) (s .laid .count .high) prices,
       three-fields 84 (matchingWeight b) (sumOf b) bids (omega (arith, weight-most b s)) (omega arith) w,
       one-field 69 (greatestOn b) (omega (arith, greatest-most b s)),
-      s .arrived,
-      s .items .1,
+      s .auction .arrived,
+      s .laid .count .high,
     ))
 
 pub output-fits : OutputFits
 output-fits s r (e, f) =
     let h = text-reached s r e f in
-    output-length (r .auction) (r .bids) (history-demand-2 (r .auction) (h .entries) (r .bids) (h .reached) .sound) (omega (arith, bids-fit (h .entries, h .reached)))
+    output-length (r .board) (r .bids) (history-demand-2 (r .board) (h .entries) (r .bids) (h .reached) .sound) (omega (arith, bids-fit (h .entries, h .reached)))
 
 pub accepted-is-written : AcceptedIsWritten
 accepted-is-written s out r (e, f) l =
-    sym (plan-finished s out r (sym e) _ _ f (sym (fit-written (outputOf (r .auction) (r .bids)) out (le-trans (output-fits s r (e, f)) l))))
+    sym (plan-finished s out r (sym e) _ _ f (sym (fit-written (outputOf (r .board) (r .bids)) out (le-trans (output-fits s r (e, f)) l))))
 
 -- ---- Figures
 
 pub printed-figures : PrintedFigures
 printed-figures s r (e, f) =
     let h = text-reached s r e f in
-    let b = r .auction in
+    let b = r .board in
     let d = history-demand-2 b (h .entries) (r .bids) (h .reached) in
-    let g = greatest-weight (b .market .arrived) (b .market .items) (live b) .attained in
+    let g = greatest-weight-with (b .market .arrived) (b .items .count) (placesAt b) (live b) .attained in
     let slack = b .market .slack in
     record {
       sum = sum-is b (d .sound);

@@ -42,6 +42,13 @@ items-same (suc n) w f x e =
     ap (λ (l : List ℕ). l ++ itemLine (w n) (n + 1) (f n)) (items-same n w f x (λ k l. e k (omega arith)))
     ∙ ap (λ (v : ℕ). itemLines w x n ++ itemLine (w n) (n + 1) v) (e n (omega arith))
 
+pub flags-same : (n : ℕ) (w v : ℕ → Bool) (f : ℕ → ℕ) → ((k : ℕ) → k < n → w k ≡ v k) → itemLines w f n ≡ itemLines v f n
+unfolding itemLines
+flags-same zero w v f e = refl
+flags-same (suc n) w v f e =
+    ap (λ (l : List ℕ). l ++ itemLine (w n) (n + 1) (f n)) (flags-same n w v f (λ k l. e k (omega arith)))
+    ∙ ap (λ (x : Bool). itemLines v f n ++ itemLine x (n + 1) (f n)) (e n (omega arith))
+
 -- the line of an item, by whether it is withdrawn
 pub item-none : (withdrawn : Bool) (number price : ℕ) → withdrawn ≡ true → [] ≡ itemLine withdrawn number price
 item-none withdrawn number price e = rw e refl

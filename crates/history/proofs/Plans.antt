@@ -12,7 +12,7 @@ use Rattle.refusals.specs.declared.Refusal.{Refusal}
 use Rattle.replay.specs.declared.Ending.{Ending}
 use Rattle.replay.specs.declared.Replayed.{Replayed}
 use Rattle.bidding.specs.Rule.{done}
-use Rattle.board.specs.Sound.{Sound}
+use Rattle.supply.specs.Sound.{Sound}
 use Rattle.replay.specs.Replay.{replayOf}
 use Rattle.auction.proofs.Histories.{history-demand-2}
 use Rattle.replay.specs.ReplayLaws.{TextReached}
@@ -54,32 +54,32 @@ page-put {bytes = bytes} {n = n} out new a p room e =
 -- ---- A text
 
 -- A finished text is a history
-pub text-reached : (s : List ℕ) (r : Replayed) → replayOf s ≡ done r → r .answer ≡ Ending.Finished → TextReached s (r .auction) (r .bids)
-text-reached s r e f = replay-reached s (r .auction) (r .bids) (record { answer = r .answer; bids = r .bids; outcome = e; tells = ap (λ (x : Ending). endingTold x (r .bids)) f })
+pub text-reached : (s : List ℕ) (r : Replayed) → replayOf s ≡ done r → r .answer ≡ Ending.Finished → TextReached s (r .board) (r .bids)
+text-reached s r e f = replay-reached s (r .board) (r .bids) (record { answer = r .answer; bids = r .bids; outcome = e; tells = ap (λ (x : Ending). endingTold x (r .bids)) f })
 
 module _ (s out : List ℕ) (r : Replayed) (e : done r ≡ replayOf s) where
   pub plan-stopped : (q : Refusal) (n : ℕ) → r .answer ≡ Ending.Stopped q n → done (planned (Planned.Refused q n) out) ≡ planOf s out
   unfolding planOf planFrom endedBy
-  plan-stopped q n a = ap (λ (x : Ending). done (endedBy out (r .auction) (r .bids) x)) (sym a) ∙ ap (planFrom out) e
+  plan-stopped q n a = ap (λ (x : Ending). done (endedBy out (r .board) (r .bids) x)) (sym a) ∙ ap (planFrom out) e
 
-  pub plan-finished : (a : Planned) (new : List ℕ) → r .answer ≡ Ending.Finished → planned a new ≡ fitted (outputOf (r .auction) (r .bids)) out → done (planned a new) ≡ planOf s out
+  pub plan-finished : (a : Planned) (new : List ℕ) → r .answer ≡ Ending.Finished → planned a new ≡ fitted (outputOf (r .board) (r .bids)) out → done (planned a new) ≡ planOf s out
   unfolding planOf planFrom endedBy
-  plan-finished a new f w = ap done w ∙ (ap (λ (x : Ending). done (endedBy out (r .auction) (r .bids) x)) (sym f) ∙ ap (planFrom out) e)
+  plan-finished a new f w = ap done w ∙ (ap (λ (x : Ending). done (endedBy out (r .board) (r .bids) x)) (sym f) ∙ ap (planFrom out) e)
 
   -- a text that is finished leaves a sound board
-  pub finished-sound : r .answer ≡ Ending.Finished → Sound (r .auction)
-  finished-sound f = let h = text-reached s r (sym e) f in history-demand-2 (r .auction) (h .entries) (r .bids) (h .reached) .sound
+  pub finished-sound : r .answer ≡ Ending.Finished → Sound (r .board)
+  finished-sound f = let h = text-reached s r (sym e) f in history-demand-2 (r .board) (h .entries) (r .bids) (h .reached) .sound
 
 -- ---- What the program prints
 
 -- a written plan, and a refusal, where the list has room for every output
-module _ (s out : List ℕ) (r : Replayed) (e : done r ≡ replayOf s) (room : r .answer ≡ Ending.Finished → length (outputOf (r .auction) (r .bids)) ≤ length out) where
-  by-ending : (a : Planned) (new : List ℕ) → done (planned a new) ≡ planOf s out → (x : Ending) → r .answer ≡ x → planned a new ≡ endedBy out (r .auction) (r .bids) x
+module _ (s out : List ℕ) (r : Replayed) (e : done r ≡ replayOf s) (room : r .answer ≡ Ending.Finished → length (outputOf (r .board) (r .bids)) ≤ length out) where
+  by-ending : (a : Planned) (new : List ℕ) → done (planned a new) ≡ planOf s out → (x : Ending) → r .answer ≡ x → planned a new ≡ endedBy out (r .board) (r .bids) x
   unfolding planOf planFrom
   by-ending a new w x f =
-      let v : done (planned a new) ≡ done (endedBy out (r .auction) (r .bids) (r .answer)) = w ∙ ap (planFrom out) (sym e) in
-      let u : planned a new ≡ endedBy out (r .auction) (r .bids) (r .answer) = cc in
-      u ∙ ap (endedBy out (r .auction) (r .bids)) f
+      let v : done (planned a new) ≡ done (endedBy out (r .board) (r .bids) (r .answer)) = w ∙ ap (planFrom out) (sym e) in
+      let u : planned a new ≡ endedBy out (r .board) (r .bids) (r .answer) = cc in
+      u ∙ ap (endedBy out (r .board) (r .bids)) f
 
   pub sheet-written : (n : ℕ) (new : List ℕ) → done (planned (Planned.Written n) new) ≡ planOf s out → (n ≡ length (sheetOf s)) × (new ≡ sheetOf s ++ drop n out)
   unfolding sheetOf printed printedBy endedBy
@@ -87,12 +87,12 @@ module _ (s out : List ℕ) (r : Replayed) (e : done r ≡ replayOf s) (room : r
     where
       go : (x : Ending) → r .answer ≡ x → (n ≡ length (sheetOf s)) × (new ≡ sheetOf s ++ drop n out)
       go Ending.Finished f =
-          let bytes = outputOf (r .auction) (r .bids) in
+          let bytes = outputOf (r .board) (r .bids) in
           let v = by-ending (Planned.Written n) new w Ending.Finished f ∙ fit-written bytes out (room f) in
           let same : Planned.Written n ≡ Planned.Written (length bytes) = ap (λ (o : PlanOutcome). o .answer) v in
           let long : n ≡ length bytes = cc in
           let is : new ≡ bytes ++ drop (length bytes) out = ap (λ (o : PlanOutcome). o .out) v in
-          let said : bytes ≡ sheetOf s = ap (printedBy (r .auction) (r .bids)) (sym f) ∙ ap printed e in
+          let said : bytes ≡ sheetOf s = ap (printedBy (r .board) (r .bids)) (sym f) ∙ ap printed e in
           (long ∙ ap length said, is ∙ (ap (λ (k : ℕ). bytes ++ drop k out) (sym long) ∙ ap (λ (l : List ℕ). l ++ drop n out) said))
       go (Ending.Stopped q k) f =
           let v = by-ending (Planned.Written n) new w (Ending.Stopped q k) f in
@@ -106,8 +106,8 @@ module _ (s out : List ℕ) (r : Replayed) (e : done r ≡ replayOf s) (room : r
     where
       go : (x : Ending) → r .answer ≡ x → (refusalOf q n ≡ sheetOf s) × (new ≡ out)
       go Ending.Finished f =
-          let v = by-ending (Planned.Refused q n) new w Ending.Finished f ∙ fit-written (outputOf (r .auction) (r .bids)) out (room f) in
-          let same : Planned.Refused q n ≡ Planned.Written (length (outputOf (r .auction) (r .bids))) = ap (λ (o : PlanOutcome). o .answer) v in
+          let v = by-ending (Planned.Refused q n) new w Ending.Finished f ∙ fit-written (outputOf (r .board) (r .bids)) out (room f) in
+          let same : Planned.Refused q n ≡ Planned.Written (length (outputOf (r .board) (r .bids))) = ap (λ (o : PlanOutcome). o .answer) v in
           let z : _≡_ {A = ℕ} 0 1 = cc in
           absurd (omega arith)
       go (Ending.Stopped x k) f =
@@ -115,4 +115,4 @@ module _ (s out : List ℕ) (r : Replayed) (e : done r ≡ replayOf s) (room : r
           let same : Planned.Refused q n ≡ Planned.Refused x k = ap (λ (o : PlanOutcome). o .answer) v in
           let a : q ≡ x = cc in
           let b : n ≡ k = cc in
-          (ap (λ (y : Refusal). refusalOf y n) a ∙ (ap (refusalOf x) b ∙ (ap (printedBy (r .auction) (r .bids)) (sym f) ∙ ap printed e)), ap (λ (o : PlanOutcome). o .out) v)
+          (ap (λ (y : Refusal). refusalOf y n) a ∙ (ap (refusalOf x) b ∙ (ap (printedBy (r .board) (r .bids)) (sym f) ∙ ap printed e)), ap (λ (o : PlanOutcome). o .out) v)

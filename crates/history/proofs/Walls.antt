@@ -10,8 +10,8 @@ use Rattle.text.specs.Print.{Put}
 use Rattle.text.proofs.Puts.{front}
 use Rattle.refusals.specs.declared.Refusal.{Refusal}
 use Rattle.refusals.specs.Codes.{codeOf}
-use Rattle.board.specs.declared.record.Auction.{Auction}
-use Rattle.board.specs.Sound.{Sound}
+use Rattle.supply.specs.declared.record.Board.{Board}
+use Rattle.supply.specs.Sound.{Sound}
 use Rattle.bidding.specs.Rule.{done}
 use Rattle.replay.specs.declared.Ending.{Ending}
 use Rattle.replay.specs.declared.Replayed.{Replayed}
@@ -28,7 +28,7 @@ use Rattle.history.specs.Wall.{wallBy, wallFrom, wallOf, WallWritten, Wa
 use Rattle.history.proofs.Sheets.{at-front}
 
 -- ---- A sound board's page, in a list with room for it
-module _ (b : Auction) (sound : Sound b) (out after : List ℕ) (room : maxPage ≤ length out) (a : PageWritten) (w : wrote a after ≡ writePageOf b out) where
+module _ (b : Board) (sound : Sound b) (out after : List ℕ) (room : maxPage ≤ length out) (a : PageWritten) (w : wrote a after ≡ writePageOf b out) where
   same : wrote a after ≡ wrote (PageWritten.Bytes (length (boardPage b))) (pageOver b out)
   same = w ∙ write-room b out sound room
 
@@ -46,10 +46,10 @@ module _ (b : Auction) (sound : Sound b) (out after : List ℕ) (room : maxPage 
 
 -- ---- A text
 module _ (s : List ℕ) (r : Replayed) (e : done r ≡ replayOf s) where
-  pub wall-finished : {out after : List ℕ} {n : ℕ} → r .answer ≡ Ending.Finished → AtFront (boardPage (r .auction)) out after n → WallWritten s out after n
+  pub wall-finished : {out after : List ℕ} {n : ℕ} → r .answer ≡ Ending.Finished → AtFront (boardPage (r .board)) out after n → WallWritten s out after n
   unfolding wallOf wallFrom wallBy
   wall-finished {out} {after} {n} f w =
-      let q : boardPage (r .auction) ≡ wallOf s = ap (wallBy (r .auction)) (sym f) ∙ ap wallFrom e in
+      let q : boardPage (r .board) ≡ wallOf s = ap (wallBy (r .board)) (sym f) ∙ ap wallFrom e in
       rw (← q) w
 
   pub wall-refused : {out after : List ℕ} {number n : ℕ} (q : Refusal) (line : ℕ) → r .answer ≡ Ending.Stopped q line → number ≡ codeOf q .number → maxLine ≤ length out →
@@ -57,7 +57,7 @@ module _ (s : List ℕ) (r : Replayed) (e : done r ≡ replayOf s) where
   unfolding wallOf wallFrom wallBy
   wall-refused {out} {after} {number} {n} q line f c room p short =
       let long : n ≡ length (refusalLine number line) = omega (arith, p .moved) in
-      let said : refusalLine number line ≡ wallOf s = ap (λ (k : ℕ). refusalLine k line) c ∙ (ap (wallBy (r .auction)) (sym f) ∙ ap wallFrom e) in
+      let said : refusalLine number line ≡ wallOf s = ap (λ (k : ℕ). refusalLine k line) c ∙ (ap (wallBy (r .board)) (sym f) ∙ ap wallFrom e) in
       at-front (wallOf s) out after n (long ∙ ap length said)
       (front (omega (arith, long)) p ∙ (ap (λ (k : ℕ). refusalLine number line ++ drop k out) (sym long) ∙ ap (λ (l : List ℕ). l ++ drop n out) said))
 

@@ -8,7 +8,7 @@ use Rattle.refusals.specs.declared.Refusal.{Refusal}
 use Rattle.refusals.specs.declared.Told.{Told}
 use Rattle.refusals.specs.Codes.{codeOf}
 use Rattle.refusals.specs.Told.{told, served, refusedAt}
-use Rattle.board.specs.declared.record.Auction.{Auction}
+use Rattle.supply.specs.declared.record.Board.{Board}
 use Rattle.bidding.specs.Rule.{done}
 use Rattle.replay.specs.TextDemand1.{TextRefused, TextFinished}
 use Rattle.history.specs.declared.planning.Planned.{Planned}
@@ -24,12 +24,12 @@ plannedTold (Planned.Refused r line) = refusedAt r line 0
 
 -- Refused: as the text is; or the text is finished, and "a list to be written has too few cells"
 pub data PlanRefused (s out : List ℕ) : Refusal → ℕ → Type 0 where
-  text : {n bids : ℕ} {b : Auction} {r : Refusal} → TextRefused s n b bids r → PlanRefused s out r n
-  short : {entries bids : ℕ} {b : Auction} → TextFinished s b entries bids → length out < length (outputOf b bids) → PlanRefused s out Refusal.Short 0
+  text : {n bids : ℕ} {b : Board} {r : Refusal} → TextRefused s n b bids r → PlanRefused s out r n
+  short : {entries bids : ℕ} {b : Board} → TextFinished s b entries bids → length out < length (outputOf b bids) → PlanRefused s out Refusal.Short 0
 
 -- Written: the text is finished, and its output stands at the front of the list. "Further cells keep what they held"
 pub record PlanWritten (s out : List ℕ) (n : ℕ) (after : List ℕ) : Type 0 where
-  pub board : Auction
+  pub board : Board
   pub entries : ℕ
   pub bids : ℕ
   pub finished : TextFinished s board entries bids
@@ -60,9 +60,9 @@ PlansDemand1 = (s out : List ℕ) → PlanDemand1 s out
 
 pub record SheetDemand1 (s : List ℕ) : Type 0 where
   -- A finished text prints the board that its lines reach, and the bids in all
-  pub plans : (b : Auction) (entries bids : ℕ) → TextFinished s b entries bids → sheetOf s ≡ outputOf b bids
+  pub plans : (b : Board) (entries bids : ℕ) → TextFinished s b entries bids → sheetOf s ≡ outputOf b bids
   -- "A refused text prints only `R`, number, line (0 for 15)"
-  pub refuses : (n : ℕ) (b : Auction) (bids : ℕ) (r : Refusal) → TextRefused s n b bids r → sheetOf s ≡ refusalLine (codeOf r .number) n
+  pub refuses : (n : ℕ) (b : Board) (bids : ℕ) (r : Refusal) → TextRefused s n b bids r → sheetOf s ≡ refusalLine (codeOf r .number) n
 
 abbrev pub SheetsDemand1 : Type 0
 SheetsDemand1 = (s : List ℕ) → SheetDemand1 s

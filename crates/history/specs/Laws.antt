@@ -4,8 +4,8 @@ use mathlib.Core.List.{List, _++_}
 use Prim.Native.Nat.{ℕ, _+_, _-_, _*_, _≤_}
 use lib.ListN.{length, drop}
 use Rattle.duality.specs.Steps.{most}
-use Rattle.board.specs.declared.record.Auction.{Auction}
-use Rattle.board.specs.Live.{matchingWeight}
+use Rattle.supply.specs.declared.record.Board.{Board}
+use Rattle.supply.specs.ByItem.{matchingWeight}
 use Rattle.replay.specs.declared.Ending.{Ending}
 use Rattle.replay.specs.declared.Replayed.{Replayed}
 use Rattle.bidding.specs.Rule.{done}
@@ -27,16 +27,16 @@ PlanEnds = (s out : List ℕ) → (o : PlanOutcome) × (planOf s out ≡ done o)
 
 -- No output is longer than the constant
 abbrev pub OutputFits : Type 0
-OutputFits = (s : List ℕ) (r : Replayed) → TextAccepted s r → length (outputOf (r .auction) (r .bids)) ≤ maxOutput
+OutputFits = (s : List ℕ) (r : Replayed) → TextAccepted s r → length (outputOf (r .board) (r .bids)) ≤ maxOutput
 
 -- So with a list of that length an accepted text is written, and 8 never shows
 abbrev pub AcceptedIsWritten : Type 0
 AcceptedIsWritten =
     (s out : List ℕ) (r : Replayed) → TextAccepted s r → maxOutput ≤ length out →
-    planOf s out ≡ done (planned (Planned.Written (length (outputOf (r .auction) (r .bids)))) (outputOf (r .auction) (r .bids) ++ drop (length (outputOf (r .auction) (r .bids))) out))
+    planOf s out ≡ done (planned (Planned.Written (length (outputOf (r .board) (r .bids)))) (outputOf (r .board) (r .bids) ++ drop (length (outputOf (r .board) (r .bids))) out))
 
 -- The printed figures of a text: of the board that its lines reach, and of the bids in all
-pub record FiguresHold (s : List ℕ) (b : Auction) (bids : ℕ) : Type 0 where
+pub record FiguresHold (s : List ℕ) (b : Board) (bids : ℕ) : Type 0 where
   -- "Prices plus gains total q + p times the plan's worth"
   pub sum : sumOf b ≡ (b .market .slack .q + b .market .slack .p) * matchingWeight b
   -- "worth times q + p is at least q - p times the worth of every plan on the live sheet", so of the greatest
@@ -46,4 +46,4 @@ pub record FiguresHold (s : List ℕ) (b : Auction) (bids : ℕ) : Type 0 where
   pub few : bids ≤ text .entries * most (b .market .slack .p) (b .market .slack .q)
 
 abbrev pub PrintedFigures : Type 0
-PrintedFigures = (s : List ℕ) (r : Replayed) → TextAccepted s r → FiguresHold s (r .auction) (r .bids)
+PrintedFigures = (s : List ℕ) (r : Replayed) → TextAccepted s r → FiguresHold s (r .board) (r .bids)

@@ -5,7 +5,7 @@ use mathlib.Core.List.{List, [], _++_}
 use Prim.Native.Nat.{ℕ, _≤_}
 use lib.ListN.{length, take, drop}
 use lib.Dec.{ltb}
-use Rattle.board.specs.declared.record.Auction.{Auction}
+use Rattle.supply.specs.declared.record.Board.{Board}
 use Rattle.refusals.specs.declared.Refusal.{Refusal}
 use Rattle.replay.specs.declared.Ending.{Ending}
 use Rattle.replay.specs.declared.Replayed.{Replayed}
@@ -30,13 +30,13 @@ fitted bytes out =
     (planned (Planned.Written (length bytes)) (bytes ++ drop (length bytes) out))
 
 -- A text that is finished has its output; a refused one leaves the list as it was. 8 comes last
-unfoldable pub endedBy : List ℕ → Auction → ℕ → Ending → PlanOutcome
+unfoldable pub endedBy : List ℕ → Board → ℕ → Ending → PlanOutcome
 endedBy out b bids Ending.Finished = fitted (outputOf b bids) out
 endedBy out b bids (Ending.Stopped r n) = planned (Planned.Refused r n) out
 
 unfoldable pub planFrom : List ℕ → Outcome Replayed → Outcome PlanOutcome
 planFrom out spent = spent
-planFrom out (done r) = done (endedBy out (r .auction) (r .bids) (r .answer))
+planFrom out (done r) = done (endedBy out (r .board) (r .bids) (r .answer))
 
 -- The text replayed: the answer, and the lent list after the call, on all inputs. No text is spent (PlanEnds)
 unfoldable pub planOf : List ℕ → List ℕ → Outcome PlanOutcome
@@ -44,13 +44,13 @@ planOf s out = planFrom out (replayOf s)
 
 -- ---- What the program prints
 
-unfoldable pub printedBy : Auction → ℕ → Ending → List ℕ
+unfoldable pub printedBy : Board → ℕ → Ending → List ℕ
 printedBy b bids Ending.Finished = outputOf b bids
 printedBy b bids (Ending.Stopped r n) = refusalOf r n
 
 unfoldable pub printed : Outcome Replayed → List ℕ
 printed spent = []
-printed (done r) = printedBy (r .auction) (r .bids) (r .answer)
+printed (done r) = printedBy (r .board) (r .bids) (r .answer)
 
 -- "The sheet program reads this text .. and prints": from the bytes of a text to bytes
 unfoldable pub sheetOf : List ℕ → List ℕ

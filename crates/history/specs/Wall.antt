@@ -4,7 +4,7 @@ use mathlib.Core.List.{List, []}
 use Prim.Native.Nat.{ℕ}
 use Rattle.refusals.specs.declared.Refusal.{Refusal}
 use Rattle.refusals.specs.Codes.{codeOf}
-use Rattle.board.specs.declared.record.Auction.{Auction}
+use Rattle.supply.specs.declared.record.Board.{Board}
 use Rattle.replay.specs.declared.Ending.{Ending}
 use Rattle.replay.specs.declared.Replayed.{Replayed}
 use Rattle.bidding.specs.Rule.{Outcome, done, spent}
@@ -14,13 +14,13 @@ use Rattle.page.specs.Rows.{boardPage}
 use Rattle.history.specs.Output.{refusalLine, refusalOf}
 use Rattle.history.specs.Plan.{AtFront}
 
-unfoldable pub wallBy : Auction → Ending → List ℕ
+unfoldable pub wallBy : Board → Ending → List ℕ
 wallBy b Ending.Finished = boardPage b
 wallBy b (Ending.Stopped r n) = refusalOf r n
 
 unfoldable pub wallFrom : Outcome Replayed → List ℕ
 wallFrom spent = []
-wallFrom (done r) = wallBy (r .auction) (r .answer)
+wallFrom (done r) = wallBy (r .board) (r .answer)
 
 -- From the bytes of a text to the bytes of a page, or of the line of a refusal
 unfoldable pub wallOf : List ℕ → List ℕ
@@ -32,9 +32,9 @@ WallWritten s before after n = AtFront (wallOf s) before after n
 
 pub record WallDemand1 (s : List ℕ) : Type 0 where
   -- "Cooks want the plan on paper": a finished text prints the page of the board that its lines reach
-  pub pages : (b : Auction) (entries bids : ℕ) → TextFinished s b entries bids → wallOf s ≡ boardPage b
+  pub pages : (b : Board) (entries bids : ℕ) → TextFinished s b entries bids → wallOf s ≡ boardPage b
   -- "A refused text prints only `R`, number, line (0 for 15)"
-  pub refuses : (n : ℕ) (b : Auction) (bids : ℕ) (r : Refusal) → TextRefused s n b bids r → wallOf s ≡ refusalLine (codeOf r .number) n
+  pub refuses : (n : ℕ) (b : Board) (bids : ℕ) (r : Refusal) → TextRefused s n b bids r → wallOf s ≡ refusalLine (codeOf r .number) n
 
 abbrev pub WallsDemand1 : Type 0
 WallsDemand1 = (s : List ℕ) → WallDemand1 s

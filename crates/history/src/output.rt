@@ -4,13 +4,17 @@ use board::record::Auction;
 use board::record::Market;
 use board::units::Pence;
 use board::units::Scaled;
+use supply::record::Items;
+use supply::shape::starts_of;
 use text::print::put_line;
-ghost use Prim.Native.Nat.{_+_, _*_, _≤_};
+ghost use Prim.Native.Nat.{ℕ, _+_, _*_, _≤_, _<_};
 ghost use Rattle.text.specs.Limits.{maxLine, maxAt};
 ghost use Rattle.text.specs.Print.{Put};
 ghost use Rattle.duality.specs.Lists.{cells};
 ghost use Rattle.board.specs.Limits.{maxItems, maxBidders};
-ghost use Rattle.board.specs.Cells.{flagAt};
+ghost use Rattle.supply.specs.Board.{startIn};
+ghost use Rattle.supply.specs.ByItem.{goneBy};
+ghost use Rattle.supply.specs.Shape.{Fits};
 ghost use Rattle.history.specs.Output.{bidderLines, itemLine, itemLines, columnLines, lastLines};
 
 // "`P` batch, kettle or 0, gain": a line for each bidder.
@@ -47,32 +51,34 @@ fn put_item(out: &mut [u8], at: usize, withdrawn: bool, number: u64, price: u64)
 fn put_items(
     out: &mut [u8],
     at: usize,
+    items: Items,
     withdrawn: [u8; Auction::MAX_ITEMS],
     prices: &[u64; Auction::MAX_BIDDERS],
-    count: usize,
 ) -> usize
-    requires { ⌜ (at ≤ maxLine * maxBidders) × (count ≤ maxItems) ⌝ }
-    ensures { λ r. ⌜ Put (now (out .entry)) (now (out .exit)) at (itemLines (flagAt withdrawn) (cells (now (prices .entry))) count) r × (r ≤ at + maxLine * count) ⌝ }
+    requires { ⌜ (at ≤ maxLine * maxBidders) × Fits items × ((k : ℕ) → k < items .count → startIn items k < maxItems) ⌝ }
+    ensures { λ r. ⌜ Put (now (out .entry)) (now (out .exit)) at (itemLines (goneBy items withdrawn) (cells (now (prices .entry))) (items .count)) r × (r ≤ at + maxLine * items .count) ⌝ }
 {
+    let count = items.count as usize;
+    let starts = starts_of(items);
     let mut next = at;
     let mut k: usize = 0;
     while k < count {
-        next = put_item(out, next, withdrawn[k] != 0, k as u64 + 1, prices[k]);
+        let s = starts[k];
+        next = put_item(out, next, withdrawn[s] != 0, k as u64 + 1, prices[k]);
         k += 1;
     }
     next
 }
 
 // The lines of the bidders, and of the items.
-pub(crate) fn put_columns(out: &mut [u8], columns: Columns, market: Market) -> usize
-    requires { ⌜ (market .arrived ≤ maxBidders) × (market .items ≤ maxItems) ⌝ }
-    ensures { λ r. ⌜ Put (now (out .entry)) (now (out .exit)) 0 (columnLines columns market) r × (r ≤ maxLine * (maxBidders + maxItems)) ⌝ }
+pub(crate) fn put_columns(out: &mut [u8], columns: Columns, items: Items, market: Market) -> usize
+    requires { ⌜ (market .arrived ≤ maxBidders) × Fits items × ((k : ℕ) → k < items .count → startIn items k < maxItems) ⌝ }
+    ensures { λ r. ⌜ Put (now (out .entry)) (now (out .exit)) 0 (columnLines columns items market) r × (r ≤ maxLine * (maxBidders + maxItems)) ⌝ }
 {
     let bidders = market.arrived as usize;
-    let items = market.items as usize;
     let withdrawn = market.withdrawn;
     let next = put_bidders(out, &columns.plan, &columns.gains, bidders);
-    put_items(out, next, withdrawn, &columns.prices, items)
+    put_items(out, next, items, withdrawn, &columns.prices)
 }
 
 // "`T` worth, sum of prices and gains, bids in all; `E` greatest worth".

@@ -8,6 +8,8 @@ use board::record::Auction;
 use refusals::Refusal;
 use replay::Ending;
 use replay::replay;
+use supply::columns::read_by_item;
+use supply::record::Board;
 use text::print::MAX_LINE;
 use text::print::put_line;
 ghost use mathlib.Core.Path.{_≡_};
@@ -17,7 +19,7 @@ ghost use lib.ListN.{length, take, drop};
 ghost use Rattle.text.specs.Limits.{maxLine};
 ghost use Rattle.text.specs.Print.{Put};
 ghost use Rattle.bidding.specs.Rule.{done};
-ghost use Rattle.board.specs.Sound.{Sound};
+ghost use Rattle.supply.specs.Sound.{Sound};
 ghost use Rattle.history.specs.Limits.{maxOutput};
 ghost use Rattle.history.specs.Output.{outputOf, refusalLine};
 ghost use Rattle.history.specs.Plan.{planned, fitted, planOf, sheetOf, SheetWritten};
@@ -55,31 +57,33 @@ pub(crate) fn fit(page: &[u8; MAX_OUTPUT], n: usize, out: &mut [u8]) -> Planned
     Planned::Written(n as u64)
 }
 
-// A board's output, at the front of a page. Prices plus gains are q + p times the weight of the plan.
-fn render(auction: Auction, bids: u64, page: &mut [u8]) -> usize
-    requires { ⌜ Sound auction ⌝ }
-    ensures { λ r. ⌜ Put (now (page .entry)) (now (page .exit)) 0 (outputOf auction bids) r × (r ≤ maxOutput) ⌝ }
+// A board's output, at the front of a page. Prices plus gains, place by place, are q + p times the weight of the plan.
+fn render(board: Board, bids: u64, page: &mut [u8]) -> usize
+    requires { ⌜ Sound board ⌝ }
+    ensures { λ r. ⌜ Put (now (page .entry)) (now (page .exit)) 0 (outputOf board bids) r × (r ≤ maxOutput) ⌝ }
 {
-    let market = auction.market;
-    let state = auction.state;
+    let items = board.items;
+    let market = board.market;
+    let state = board.state;
     let bidders = market.arrived as usize;
-    let items = market.items as usize;
+    let places = market.items as usize;
     let slack = market.slack;
-    let columns = columns_of(state, items);
-    let total = total_of(columns, bidders, items);
+    let by_place = columns_of(state, places);
+    let total = total_of(by_place, bidders, places);
     let weight = slack.weight_of(total);
-    let best = greatest(auction);
-    let last = put_columns(page, columns, market);
+    let best = greatest(board);
+    let columns = read_by_item(by_place, items, bidders);
+    let last = put_columns(page, columns, items, market);
     put_last(page, last, weight, total, bids, best)
 }
 
 // The output of a board, where there is room for it.
-fn write_output(auction: Auction, bids: u64, out: &mut [u8]) -> Planned
-    requires { ⌜ Sound auction ⌝ }
-    ensures { λ r. ⌜ planned r (now (out .exit)) ≡ fitted (outputOf auction bids) (now (out .entry)) ⌝ }
+fn write_output(board: Board, bids: u64, out: &mut [u8]) -> Planned
+    requires { ⌜ Sound board ⌝ }
+    ensures { λ r. ⌜ planned r (now (out .exit)) ≡ fitted (outputOf board bids) (now (out .entry)) ⌝ }
 {
     let mut page = [0u8; MAX_OUTPUT];
-    let n = render(auction, bids, &mut page);
+    let n = render(board, bids, &mut page);
     fit(&page, n, out)
 }
 
@@ -90,7 +94,7 @@ pub fn plan_text(text: &[u8], out: &mut [u8]) -> Planned
     let replayed = replay(text);
     let answer = replayed.answer;
     let Ending::Stopped(refusal, line) = answer else {
-        return write_output(replayed.auction, replayed.bids, out);
+        return write_output(replayed.board, replayed.bids, out);
     };
     Planned::Refused(refusal, line)
 }

@@ -3,23 +3,23 @@ use crate::planning::MAX_OUTPUT;
 use crate::planning::Planned;
 use crate::planning::fit;
 use crate::planning::put_refusal;
-use board::record::Auction;
 use page::writing::PageWritten;
 use page::writing::write_page;
 use replay::Ending;
 use replay::replay;
+use supply::record::Board;
 ghost use mathlib.Core.Path.{_≡_};
-ghost use Rattle.board.specs.Sound.{Sound};
+ghost use Rattle.supply.specs.Sound.{Sound};
 ghost use Rattle.page.specs.Rows.{boardPage};
 ghost use Rattle.history.specs.Plan.{planned, fitted, AtFront};
 ghost use Rattle.history.specs.Wall.{wallOf, WallWritten};
 
 // The page of a sound board, at the front of a list that is never too short.
-fn put_board(auction: Auction, out: &mut [u8; MAX_OUTPUT]) -> usize
-    requires { ⌜ Sound auction ⌝ }
-    ensures { λ r. ⌜ AtFront (boardPage auction) (now (out .entry)) (now (out .exit)) r ⌝ }
+fn put_board(board: Board, out: &mut [u8; MAX_OUTPUT]) -> usize
+    requires { ⌜ Sound board ⌝ }
+    ensures { λ r. ⌜ AtFront (boardPage board) (now (out .entry)) (now (out .exit)) r ⌝ }
 {
-    let written = write_page(auction, out);
+    let written = write_page(board, out);
     let PageWritten::Bytes(n) = written else {
         return 0;
     };
@@ -33,7 +33,7 @@ pub fn wall_text(text: &[u8], out: &mut [u8; MAX_OUTPUT]) -> usize
     let replayed = replay(text);
     let answer = replayed.answer;
     let Ending::Stopped(refusal, line) = answer else {
-        return put_board(replayed.auction, out);
+        return put_board(replayed.board, out);
     };
     put_refusal(refusal.number(), line, out)
 }

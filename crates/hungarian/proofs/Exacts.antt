@@ -1,22 +1,28 @@
 -- What is solved on the live edges, written into three lists, shows the greatest weight; so the exact call meets demand 3 and demand 1.
-use mathlib.Core.Path.{_≡_, refl, sym, ap, _∙_}
+use mathlib.Core.Path.{_≡_, refl, sym, ap, subst, _∙_}
 use mathlib.Core.Bool.{true, cond}
 use mathlib.Core.List.{List}
 use Prim.Native.Nat.{ℕ, zero, suc, _+_, _-_, _*_, _≤_, _<_}
 use native.Mathlib.Nat.{one-mul}
 use native.Mathlib.Omega.{arith}
-use lib.ListN.{getD, drop, length-drop}
+use lib.ListN.{drop, length-drop}
 use lib.Seq.{getD-drop, ext-getD}
 use Rattle.duality.specs.Lists.{cells}
 use Rattle.duality.specs.Matching.{atCell, weightOf}
-use Rattle.duality.specs.Cover.{total}
-use Rattle.duality.specs.StrongDuality.{Equal}
 use Rattle.duality.proofs.Sums.{sumTo-eq}
-use Rattle.duality.proofs.Agree.{weight-as, total-as, matching-as, covers-as}
-use Rattle.duality.proofs.WeakDuality.{weak-duality}
-use Rattle.duality.proofs.GreatestWeight.{greatest-weight}
-use Rattle.duality.proofs.EqualExactlyWhenBest.{equal-exactly-when-best-lists}
-use Rattle.board.specs.declared.record.Auction.{Auction}
+use Rattle.duality.proofs.Agree.{weight-as, covers-as}
+use Rattle.places.specs.Places.{placesTo, spreadWeights}
+use Rattle.places.specs.Plan.{readBack}
+use Rattle.places.specs.Total.{totalWith, leastPrice}
+use Rattle.places.specs.StrongDualityWith.{EqualWith}
+use Rattle.places.proofs.PlaceLaws.{every-place-has-its-item}
+use Rattle.places.proofs.Spread.{matching-reads-back}
+use Rattle.places.proofs.SpreadCover.{leastOf-le}
+use Rattle.places.proofs.WeakDualityWith.{weak-duality-with}
+use Rattle.places.proofs.StrongDualityWith.{equal-reads-back}
+use Rattle.places.proofs.EqualExactlyWhenBestWith.{plan-as, total-with-as, equal-exactly-when-best-lists-with}
+use Rattle.places.proofs.GreatestWeightWith.{greatest-weight-with}
+use Rattle.board.specs.declared.lent.Columns.{Columns}
 use Rattle.board.specs.declared.units.Pence.{Pence}
 use Rattle.refusals.specs.declared.Refusal.{Refusal}
 use Rattle.refusals.specs.declared.Told.{Told}
@@ -24,19 +30,24 @@ use Rattle.refusals.specs.Told.{served, refused}
 use Rattle.refusals.proofs.Answers.{refused-apart, served-apart}
 use Rattle.refusals.specs.declared.Verdict.{Verdict}
 use Rattle.refusals.specs.declared.Verdict.the-variants.{Served, Refused}
-use Rattle.board.specs.Limits.{maxItems}
-use Rattle.board.specs.Cells.{pence, withdrawnAt, rowAt}
-use Rattle.board.specs.Live.{live}
-use Rattle.board.specs.Sound.{Sound}
 use Rattle.refusals.specs.Demand1.{firstOf}
-use Rattle.board.specs.Lent.{Lists, lists, Roomy, written}
-use Rattle.board.proofs.Written.{written-length, written-in, written-past}
-use Rattle.board.proofs.SoundLaw.{sound-decides}
 use Rattle.refusals.proofs.Verdicts.{demand-1}
-use Rattle.board.proofs.Lending.{roomy-decides, read-out-decided, lent-served}
+use Rattle.board.specs.Limits.{maxItems}
+use Rattle.board.specs.Cells.{pence}
+use Rattle.board.specs.Live as placed
+use Rattle.board.specs.Lent.{Lists, written, writtenLists}
+use Rattle.board.proofs.Written.{written-length, written-in, written-past}
+use Rattle.supply.specs.declared.record.Board.{Board}
+use Rattle.supply.specs.Board.{auctionOf, placesAt, allPlaces, startIn, itemAt}
+use Rattle.supply.specs.ByItem.{withdrawnAt, weightAt, live}
+use Rattle.supply.specs.Sound.{Sound}
+use Rattle.supply.specs.Lent.{Roomy}
+use Rattle.supply.specs.Columns.{ReadByItem}
+use Rattle.supply.proofs.SoundLaw.{sound-decides}
+use Rattle.supply.proofs.ByItem.{places-as-item, first-place, sound-over-places}
+use Rattle.supply.proofs.Lending.{roomy-decides, read-out-decided, lent-served}
 use Rattle.hungarian.specs.declared.exact.Greatest.{Greatest}
-use Rattle.hungarian.specs.Weights.{matrixAt}
-use Rattle.hungarian.specs.Solved.{Solved}
+use Rattle.hungarian.specs.Solved.{Solved, SolvedBy}
 use Rattle.hungarian.specs.LiveWeights.{LiveTo}
 use Rattle.hungarian.specs.Exact.{exactChecks, exactBy, exactOf, greatestOn, exactTold, KeptFrom, Shows, ExactOutcome}
 use Rattle.hungarian.specs.Demand3.{EqualExactlyWhenBestOn, ExactGivesDemand3, ExactDemand1, ExactIsBest, ExactKeeps}
@@ -68,47 +79,92 @@ solved-as {n} {m} {w} {v} {matching} {price} {gain} {weight} e s =
 pub kept-from : (n : ℕ) (f : ℕ → ℕ) (l : List ℕ) → KeptFrom n l (written n f l)
 kept-from n f l = record { size = written-length n f l; further = λ i u. written-past n f l i u }
 
--- Lists that hold what is solved on the live edges
-pub shows : (b : Auction) (l : Lists) (matrix : List ℕ) (matching price gain : ℕ → ℕ) (weight : ℕ) → Sound b → Roomy b l → LiveTo maxItems (b .weights) (b .market .withdrawn) matrix
-    → Solved (b .market .arrived) maxItems (matrixAt matrix) matching price gain weight
-    → Shows b l (Greatest.Weight (pence weight)) (lists (written (b .market .arrived) matching (l .plan)) (written (b .market .items) price (l .prices)) (written (b .market .arrived) gain (l .gains)))
-shows b l matrix matching price gain weight s room p solved =
-    record {
-      matches = matching-as plan-is (few .matches);
-      covers = covers-as _ _ _ 1 price _ gain _ prices-are gains-are (few .covers);
-      weighs = ap served (few .weighs ∙ sym (weight-as _ (live b) matching _ plan-is));
-      totals = ap served (few .totals ∙ sym (total-as _ _ price _ gain _ prices-are gains-are));
-      withdrawn = λ k lk gone. prices-are k lk ∙ solved-is-greatest _ _ _ _ _ _ _ few .unwanted k lk (λ i li. none k gone i);
-      plan = kept-from (b .market .arrived) matching (l .plan);
-      prices = kept-from (b .market .items) price (l .prices);
-      gains = kept-from (b .market .arrived) gain (l .gains);
-    }
-  where
-    on-live : Solved (b .market .arrived) maxItems (live b) matching price gain weight
-    on-live = solved-as (λ i k li lk. live-is b s matrix p i k (omega (arith, s .arrived)) lk) solved
+-- What is solved on the live edges by place, and read by item
+module _ (b : Board) (matrix : List ℕ) (c : Columns) (weight : ℕ) (s : Sound b) (p : LiveTo maxItems (b .weights) (b .market .withdrawn) matrix)
+    (solved : SolvedBy (b .market .arrived) matrix c weight) where
+  -- Of all places of the board
+  by-place : Solved (b .market .arrived) (b .market .items) (placed.live (auctionOf b)) (cells (c .plan)) (cells (c .prices)) (cells (c .gains)) weight
+  by-place =
+      solved-for-fewer _ _ (b .market .items) _ _ _ _ _ (s .auction .items .1) (λ i k li u lk. live-unused (auctionOf b) (s .auction) matrix p i k li u lk)
+      (solved-as (λ i k li lk. live-is (auctionOf b) (s .auction) matrix p i k (omega (arith, s .auction .arrived)) lk) solved)
 
-    few : Solved (b .market .arrived) (b .market .items) (live b) matching price gain weight
-    few = solved-for-fewer _ _ (b .market .items) _ _ _ _ _ (s .items .1) (λ i k li u lk. live-unused b s matrix p i k li u lk) on-live
+  -- A bidder's cell names one of all places, or none
+  pub solved-few : (i : ℕ) → i < b .market .arrived → cells (c .plan) i ≤ allPlaces (b .items)
+  solved-few i l = go (cells (c .plan) i) refl
+    where
+      go : (m : ℕ) → cells (c .plan) i ≡ m → m ≤ allPlaces (b .items)
+      go zero e = omega arith
+      go (suc k) e = omega (arith, by-place .matches .along i k l e .0, s .laid .all)
 
-    plan-is : (i : ℕ) → i < b .market .arrived → cells (written (b .market .arrived) matching (l .plan)) i ≡ matching i
-    plan-is i li = written-in (b .market .arrived) matching (l .plan) (room .plan) i li
+  -- With the weights by item
+  spread : Solved (b .market .arrived) (placesTo (placesAt b) (b .items .count)) (spreadWeights (placesAt b) (b .items .count) (live b))
+      (cells (c .plan)) (cells (c .prices)) (cells (c .gains)) weight
+  spread =
+      let w = spreadWeights (placesAt b) (b .items .count) (live b) in
+      subst (λ m. Solved (b .market .arrived) m w (cells (c .plan)) (cells (c .prices)) (cells (c .gains)) weight) (s .laid .all) (solved-as as-item by-place)
+    where
+      as-item : (i k : ℕ) → i < b .market .arrived → k < b .market .items → placed.live (auctionOf b) i k ≡ live b i (itemAt (b .items) k)
+      as-item i k li lk =
+          let (l, at) = every-place-has-its-item (placesAt b) (b .items .count) k (rw (s .laid .all) at lk) in
+          places-as-item b (itemAt (b .items) k) k s l at .live i li
 
-    prices-are : (k : ℕ) → k < b .market .items → cells (written (b .market .items) price (l .prices)) k ≡ price k
-    prices-are k lk = written-in (b .market .items) price (l .prices) (room .prices) k lk
+  -- A plan and a cover with equal totals, at the least prices
+  by-item : EqualWith (b .market .arrived) (b .items .count) (placesAt b) (live b)
+      (readBack (placesAt b) (b .items .count) (cells (c .plan))) (leastPrice (placesAt b) (cells (c .prices))) (cells (c .gains))
+  by-item =
+      equal-reads-back _ _ _ _ _ _ _ (sound-over-places b s .some) (solved-is-greatest _ _ _ _ _ _ _ spread .equal)
 
-    gains-are : (i : ℕ) → i < b .market .arrived → cells (written (b .market .arrived) gain (l .gains)) i ≡ gain i
-    gains-are i li = written-in (b .market .arrived) gain (l .gains) (room .gains) i li
+  weighs-by-item : weight ≡ weightOf (b .market .arrived) (live b) (readBack (placesAt b) (b .items .count) (cells (c .plan)))
+  weighs-by-item = spread .weighs ∙ sym (matching-reads-back _ (b .items .count) (placesAt b) (live b) _ (spread .matches) .same)
 
-    none : (k : ℕ) → withdrawnAt b k ≡ true → (i : ℕ) → live b i k ≡ 0
-    none k gone i = ap (λ f. cond f 0 (getD (rowAt b i) k 0)) gone
+  -- Nobody has a live edge at the first place of a withdrawn item
+  gone-free : (k : ℕ) → k < b .items .count → withdrawnAt b k ≡ true → leastPrice (placesAt b) (cells (c .prices)) k ≡ 0
+  gone-free k lk gone =
+      let start = startIn (b .items) k in
+      let below = places-as-item b k start s lk (first-place b k s lk) .below in
+      let free = solved-is-greatest _ _ _ _ _ _ _ by-place .unwanted start below (λ i li. ap (λ f. cond f 0 (weightAt b i k)) gone) in
+      let e : start + 0 ≡ start = omega arith in
+      omega (
+        arith,
+        leastOf-le (cells (c .prices) start) (placesAt b k) (λ j. cells (c .prices) (start + j)) 0 (omega (arith, s .laid .each k lk .low)),
+        ap (cells (c .prices)) e,
+        free,
+      )
 
-pub best-on : (b : Auction) → Sound b → EqualExactlyWhenBestOn b
-best-on b s plan prices gains = equal-exactly-when-best-lists (b .market .arrived) (b .market .items) (live b) plan prices gains
+  -- Lists that hold it
+  pub shows : (l : Lists) (d : Columns) → Roomy b l → ReadByItem (b .items) (b .market .arrived) c d →
+      Shows b l (Greatest.Weight (pence weight)) (writtenLists (b .market .arrived) (b .items .count) d l)
+  shows l d room read =
+      record {
+        matches = plan-as plan-is (by-item .plans);
+        covers = covers-as _ _ _ 1 _ _ _ _ prices-are gains-are (by-item .covers);
+        weighs = ap served (weighs-by-item ∙ sym (weight-as _ (live b) _ _ plan-is));
+        totals = ap served (weighs-by-item ∙ by-item .same ∙ sym (total-with-as _ _ (placesAt b) _ _ _ _ prices-are gains-are));
+        withdrawn = λ k lk gone. prices-are k lk ∙ gone-free k lk gone;
+        plan = kept-from (b .market .arrived) (cells (d .plan)) (l .plan);
+        prices = kept-from (b .items .count) (cells (d .prices)) (l .prices);
+        gains = kept-from (b .market .arrived) (cells (d .gains)) (l .gains);
+      }
+    where
+      plan-is : (i : ℕ) → i < b .market .arrived →
+          cells (written (b .market .arrived) (cells (d .plan)) (l .plan)) i ≡ readBack (placesAt b) (b .items .count) (cells (c .plan)) i
+      plan-is i li = written-in (b .market .arrived) (cells (d .plan)) (l .plan) (room .plan) i li ∙ read .plan i li
+
+      prices-are : (k : ℕ) → k < b .items .count →
+          cells (written (b .items .count) (cells (d .prices)) (l .prices)) k ≡ leastPrice (placesAt b) (cells (c .prices)) k
+      prices-are k lk = written-in (b .items .count) (cells (d .prices)) (l .prices) (room .prices) k lk ∙ read .prices k lk
+
+      gains-are : (i : ℕ) → i < b .market .arrived → cells (written (b .market .arrived) (cells (d .gains)) (l .gains)) i ≡ cells (c .gains) i
+      gains-are i li = written-in (b .market .arrived) (cells (d .gains)) (l .gains) (room .gains) i li ∙ ap (λ gains. cells gains i) (read .gains)
+
+pub best-on : (b : Board) → Sound b → EqualExactlyWhenBestOn b
+best-on b s plan prices gains =
+    equal-exactly-when-best-lists-with (b .market .arrived) (b .items .count) (placesAt b) (live b) plan prices gains (sound-over-places b s .some)
 
 -- Both totals are the answer, so they are equal
-pub shown-equal : {b : Auction} {before after : Lists} {answer : Greatest} → Shows b before answer after →
-    Equal (b .market .arrived) (b .market .items) (live b) (cells (after .plan)) (cells (after .prices)) (cells (after .gains))
-shown-equal {b} {before} {after} {answer} s = record { matches = s .matches; covers = s .covers; same = ap (λ (t : Told). t .value) (sym (s .weighs) ∙ s .totals) }
+pub shown-equal : {b : Board} {before after : Lists} {answer : Greatest} → Shows b before answer after →
+    EqualWith (b .market .arrived) (b .items .count) (placesAt b) (live b) (cells (after .plan)) (cells (after .prices)) (cells (after .gains))
+shown-equal {after = after} s = record { plans = s .matches; covers = s .covers; same = ap (λ (t : Told). t .value) (sym (s .weighs) ∙ s .totals) }
 
 pub exact-is-best : ExactIsBest
 exact-is-best b before after answer s =
@@ -116,15 +172,16 @@ exact-is-best b before after answer s =
       answers = s .totals ∙ ap served whole;
       weight = shown-equal s .same ∙ whole;
       sum = whole;
-      greatest = greatest-weight (b .market .arrived) (b .market .items) (live b) .bound;
-      least = λ y x c. least y x (weak-duality (b .market .arrived) (b .market .items) (live b) 1 (cells (after .plan)) y x (s .matches) c);
+      greatest = greatest-weight-with (b .market .arrived) (b .items .count) (placesAt b) (live b) .bound;
+      least = λ y x c. least y x (weak-duality-with (b .market .arrived) (b .items .count) (placesAt b) (live b) 1 (cells (after .plan)) y x (s .matches) c);
     }
   where
-    whole : total (b .market .arrived) (b .market .items) (cells (after .prices)) (cells (after .gains)) ≡ greatestOn b
-    whole = greatest-weight (b .market .arrived) (b .market .items) (live b) .equal _ _ _ (shown-equal s)
+    whole : totalWith (b .market .arrived) (b .items .count) (placesAt b) (cells (after .prices)) (cells (after .gains)) ≡ greatestOn b
+    whole = greatest-weight-with (b .market .arrived) (b .items .count) (placesAt b) (live b) .equal _ _ _ (shown-equal s)
 
-    least : (y x : ℕ → ℕ) → 1 * weightOf (b .market .arrived) (live b) (cells (after .plan)) ≤ total (b .market .arrived) (b .market .items) y x →
-        greatestOn b ≤ total (b .market .arrived) (b .market .items) y x
+    least : (y x : ℕ → ℕ) →
+        1 * weightOf (b .market .arrived) (live b) (cells (after .plan)) ≤ totalWith (b .market .arrived) (b .items .count) (placesAt b) y x →
+        greatestOn b ≤ totalWith (b .market .arrived) (b .items .count) (placesAt b) y x
     least y x l = rw (← (one-mul (weightOf (b .market .arrived) (live b) (cells (after .plan))) ∙ shown-equal s .same ∙ whole)) l
 
 -- ---- Further cells
@@ -157,7 +214,7 @@ exact-told-refused (Greatest.Refused s) r e = ap Greatest.Refused (refused-apart
 
 -- ---- The call's two ends
 
-module _ (b : Auction) (l : Lists) where
+module _ (b : Board) (l : Lists) where
   pub exact-refused : (r : Refusal) → firstOf (exactChecks b l) ≡ Refused r → ExactOutcome b l (Greatest.Refused r) l
   unfolding exactOf exactBy
   exact-refused r e = record { answers = rw e refl; refused = λ q f. refl; served = λ w f. served-apart w r _ _ (sym f) }

@@ -3,25 +3,27 @@ use mathlib.Core.Path.{_≡_}
 use mathlib.Core.List.{List}
 use Prim.Native.Nat.{ℕ, _*_, _≤_}
 use lib.ListN.{length}
-use Rattle.duality.specs.Matching.{IsMatching, weightOf}
+use Rattle.duality.specs.Matching.{weightOf}
+use Rattle.places.specs.Plan.{IsPlan}
 use Rattle.duality.specs.Lists.{cells}
-use Rattle.board.specs.declared.record.Auction.{Auction}
+use Rattle.supply.specs.declared.record.Board.{Board}
 use Rattle.board.specs.Limits.{maxItems, maxWeight}
-use Rattle.board.specs.Live.{live}
-use Rattle.board.specs.Sound.{Sound}
+use Rattle.supply.specs.Board.{placesAt}
+use Rattle.supply.specs.ByItem.{live}
+use Rattle.supply.specs.Sound.{Sound}
 
--- A cell for each bidder and no more; "one kettle or none, only along entries, and no kettle to two batches"
-pub record PlanOn (b : Auction) (plan : List ℕ) : Type 0 where
+-- A cell for each bidder and no more; "one kettle or none, only along entries", and "once per place"
+pub record PlanOn (b : Board) (plan : List ℕ) : Type 0 where
   pub size : length plan ≡ b .market .arrived
-  pub matches : IsMatching (b .market .arrived) (b .market .items) (live b) (cells plan)
+  pub matches : IsPlan (b .market .arrived) (b .items .count) (placesAt b) (live b) (cells plan)
 
 -- "Its worth is the sum of the entries used"
-abbrev pub weightOn : Auction → List ℕ → ℕ
+abbrev pub weightOn : Board → List ℕ → ℕ
 weightOn b plan = weightOf (b .market .arrived) (live b) (cells plan)
 
--- The greatest weight that a board can hold: every item in use, each by an edge of the greatest weight
+-- The greatest weight that a board can hold: every place in use, each by an edge of the greatest weight
 abbrev pub mostWeight : ℕ
 mostWeight = maxItems * maxWeight
 
 abbrev pub PlansWithin : Type 0
-PlansWithin = (b : Auction) (plan : List ℕ) → Sound b → PlanOn b plan → weightOn b plan ≤ mostWeight
+PlansWithin = (b : Board) (plan : List ℕ) → Sound b → PlanOn b plan → weightOn b plan ≤ mostWeight

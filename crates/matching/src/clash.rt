@@ -3,72 +3,89 @@ use crate::live::live_weight;
 use board::record::Auction;
 use refusals::Refusal;
 use refusals::Verdict;
+use supply::record::Items;
+use supply::shape::count_in;
 ghost use mathlib.Core.Path.{_≡_};
-ghost use mathlib.Core.Bool.{not};
 ghost use Prim.Native.Nat.{_≤_, _<_};
 ghost use lib.ListN.{length};
 ghost use lib.Dec.{eqb};
-ghost use Rattle.duality.specs.Decide.{allBelow};
 ghost use Rattle.duality.specs.Lists.{cells};
-ghost use Rattle.duality.specs.Tests.{cellTest};
-ghost use Rattle.board.specs.Live.{liveOf};
-ghost use Rattle.board.specs.Limits.{maxItems, maxBidders};
+ghost use Rattle.places.specs.Places.{flag, countTo};
+ghost use Rattle.places.specs.PlanTest.{cellTestWith};
+ghost use Rattle.board.specs.Limits.{maxBidders};
+ghost use Rattle.supply.specs.Board.{placesIn};
+ghost use Rattle.supply.specs.ByItem.{liveBy};
+ghost use Rattle.supply.specs.Shape.{Located};
 ghost use Rattle.refusals.specs.Demand1.{firstOf};
 ghost use Rattle.matching.specs.Clash.{clashChecks};
 
-// Whether no bidder before one names an item.
-fn is_fresh(plan: &[u64], bidder: usize, item: u64) -> bool
+// How many bidders before one name an item.
+fn named_before(plan: &[u64], bidder: usize, item: u64) -> usize
     requires { ⌜ bidder ≤ length (now plan) ⌝ }
-    ensures { λ r. ⌜ r ≡ allBelow bidder (λ h. not (eqb (cells (now (plan .entry)) h) item)) ⌝ }
+    ensures { λ r. ⌜ (r ≡ countTo bidder (λ h. eqb (cells (now (plan .entry)) h) item)) × (r ≤ bidder) ⌝ }
 {
+    let mut named: usize = 0;
     let mut h: usize = 0;
     while h < bidder {
-        if plan[h] == item {
-            return false;
-        }
+        named += once(plan[h] == item);
         h += 1;
     }
-    true
+    named
 }
 
-// A bidder's cell: 0, or an item with a live edge to it that no earlier bidder names.
+// 1 where it is so, and 0 where it is not.
+fn once(so: bool) -> usize
+    ensures { λ r. ⌜ (r ≡ flag so) × (r ≤ 1) ⌝ }
+{
+    if so {
+        return 1;
+    }
+    0
+}
+
+// A bidder's cell: 0, or an item with a live edge to it that has more places than earlier bidders name it.
 fn cell_holds<'a>(
+    items: Items,
+    starts: &'a [usize; Auction::MAX_ITEMS],
     weights: &'a [u32; Auction::MAX_CELLS],
     withdrawn: &'a [u8; Auction::MAX_ITEMS],
-    items: u64,
     plan: &[u64],
     bidder: usize,
 ) -> bool
-    requires { ⌜ (bidder < length (now plan)) × (bidder < maxBidders) × (items ≤ maxItems) ⌝ }
-    ensures { λ r. ⌜ r ≡ cellTest items (liveOf (now (withdrawn .entry)) (now (weights .entry))) (cells (now (plan .entry))) bidder (cells (now (plan .entry)) bidder) ⌝ }
+    requires { ⌜ (bidder < length (now plan)) × (bidder < maxBidders) × Located items (now starts) ⌝ }
+    ensures { λ r. ⌜ r ≡ cellTestWith (items .count) (placesIn items) (liveBy items (now (withdrawn .entry)) (now (weights .entry)))
+        (cells (now (plan .entry))) bidder (cells (now (plan .entry)) bidder) ⌝ }
 {
     let item = plan[bidder];
     if item == 0 {
         return true;
     }
-    if item > items {
+    if item > items.count {
         return false;
     }
-    let weight = live_weight(weights, withdrawn, bidder, (item - 1) as usize);
+    let k = (item - 1) as usize;
+    let weight = live_weight(items, starts, weights, withdrawn, bidder, k);
     if weight.0 == 0 {
         return false;
     }
-    is_fresh(plan, bidder, item)
+    named_before(plan, bidder, item) < count_in(items.places[k])
 }
 
 // Refusal 10: the first bidder whose cell does not hold.
 pub fn plan_verdict<'a>(
+    items: Items,
+    starts: &'a [usize; Auction::MAX_ITEMS],
     weights: &'a [u32; Auction::MAX_CELLS],
     withdrawn: &'a [u8; Auction::MAX_ITEMS],
-    items: u64,
     plan: &[u64],
 ) -> Verdict
-    requires { ⌜ (length (now plan) ≤ maxBidders) × (items ≤ maxItems) ⌝ }
-    ensures { λ r. ⌜ r ≡ firstOf (clashChecks items (liveOf (now (withdrawn .entry)) (now (weights .entry))) (cells (now (plan .entry))) (length (now (plan .entry)))) ⌝ }
+    requires { ⌜ (length (now plan) ≤ maxBidders) × Located items (now starts) ⌝ }
+    ensures { λ r. ⌜ r ≡ firstOf (clashChecks (items .count) (placesIn items) (liveBy items (now (withdrawn .entry)) (now (weights .entry)))
+        (cells (now (plan .entry))) (length (now (plan .entry)))) ⌝ }
 {
     let mut i: usize = 0;
     while i < plan.len() {
-        if !cell_holds(weights, withdrawn, items, plan, i) {
+        if !cell_holds(items, starts, weights, withdrawn, plan, i) {
             return Verdict::Refused(Refusal::Clash(i as u64 + 1));
         }
         i += 1;

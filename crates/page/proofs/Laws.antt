@@ -14,14 +14,13 @@ use Rattle.refusals.specs.declared.Verdict.{Verdict}
 use Rattle.refusals.specs.declared.Verdict.the-variants.{Served, Refused}
 use Rattle.refusals.specs.Demand1.{firstOf}
 use Rattle.refusals.proofs.Verdicts.{served-next}
-use Rattle.board.specs.declared.record.Auction.{Auction}
+use Rattle.supply.specs.declared.record.Board.{Board}
 use Rattle.board.specs.Limits.{maxText}
-use Rattle.board.specs.Cells.{gainAt}
-use Rattle.board.specs.Live.{matchingOf}
+use Rattle.supply.specs.ByItem.{gainAt, matchingOf}
 use Rattle.board.specs.Lent.{written}
-use Rattle.board.specs.Sound.{Sound}
-use Rattle.board.specs.SoundTest.{soundTest}
-use Rattle.board.proofs.SoundLaw.{sound-decides}
+use Rattle.supply.specs.Sound.{Sound}
+use Rattle.supply.specs.SoundTest.{soundTest}
+use Rattle.supply.proofs.SoundLaw.{sound-decides}
 use Rattle.board.proofs.Written.{written-as}
 use Rattle.layout.specs.declared.row.Row.{Row}
 use Rattle.layout.specs.Limits.{pageBytes, maxPage}
@@ -82,12 +81,12 @@ pub reads-said : ReadsSaid
 reads-said s l o = (λ e. let (x, w) = reads-one s l in subst (ReadsAs s l) (sym (reads-at s l w) ∙ e) w, reads-at s l)
 
 -- ---- What writing answers
-writes-at : (b : Auction) (page : List ℕ) {o : WriteOutcome} → WritesAs b page o → writePageOf b page ≡ o
+writes-at : (b : Board) (page : List ℕ) {o : WriteOutcome} → WritesAs b page o → writePageOf b page ≡ o
 writes-at b page (WritesAs.spoilt f) = sym (write-spoilt b page (sym (false-is _ (sound-decides b) f)))
 writes-at b page (WritesAs.short s h) = sym (write-short b page (sound-decides b .complete s) (omega (arith, boards-fit b s .bytes)))
 writes-at b page (WritesAs.bytes s h) = served-as b page (sound-decides b .complete s) (omega (arith, boards-fit b s .bytes))
 
-writes-one : (b : Auction) (page : List ℕ) → (o : WriteOutcome) × WritesAs b page o
+writes-one : (b : Board) (page : List ℕ) → (o : WriteOutcome) × WritesAs b page o
 writes-one b page = go (soundTest b) refl
   where
     go : (t : Bool) → soundTest b ≡ t → (o : WriteOutcome) × WritesAs b page o
@@ -100,7 +99,7 @@ pub writes-said : WritesSaid
 writes-said b page o = (λ e. let (x, w) = writes-one b page in subst (WritesAs b page) (sym (writes-at b page w) ∙ e) w, writes-at b page)
 
 -- ---- What was written reads back
-module _ (b : Auction) (page : List ℕ) where
+module _ (b : Board) (page : List ℕ) where
   -- a page is written of sound boards only
   write-open : {after : List ℕ} {n : ℕ} → writePageOf b page ≡ wrote (PageWritten.Bytes n) after → Sound b × (n ≡ length (boardPage b)) × (after ≡ pageOver b page)
   unfolding writePageOf writeBy
@@ -117,10 +116,10 @@ module _ (b : Auction) (page : List ℕ) where
           let z : _≡_ {A = ℕ} 0 1 = cc in
           absurd (omega arith)
 
-board-rows : (b : Auction) (i : ℕ) → i < b .market .arrived → getD (boardRows b) i unplaced ≡ boardRow b i
+board-rows : (b : Board) (i : ℕ) → i < b .market .arrived → getD (boardRows b) i unplaced ≡ boardRow b i
 board-rows b i l = rows-at (boardRow b) (b .market .arrived) unplaced i l
 
-rows-board : (b : Auction) (l : RowLists) → rowsStored (b .market .arrived) (boardRows b) l ≡
+rows-board : (b : Board) (l : RowLists) → rowsStored (b .market .arrived) (boardRows b) l ≡
     rowLists (written (b .market .arrived) (matchingOf b) (l .plan)) (written (b .market .arrived) (weightHeld b) (l .weights)) (written (b .market .arrived) (gainAt b) (l .gains))
 rows-board b l =
     let n = b .market .arrived in

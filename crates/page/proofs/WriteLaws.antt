@@ -18,10 +18,10 @@ use Rattle.refusals.specs.Demand1.{firstOf}
 use Rattle.refusals.specs.Told.{served, refused}
 use Rattle.refusals.proofs.Verdicts.{Decided, ends, next, demand-1}
 use Rattle.refusals.proofs.Answers.{refused-apart, served-apart}
-use Rattle.board.specs.declared.record.Auction.{Auction}
-use Rattle.board.specs.Sound.{Sound}
-use Rattle.board.specs.SoundTest.{soundTest}
-use Rattle.board.proofs.SoundLaw.{sound-decides}
+use Rattle.supply.specs.declared.record.Board.{Board}
+use Rattle.supply.specs.Sound.{Sound}
+use Rattle.supply.specs.SoundTest.{soundTest}
+use Rattle.supply.proofs.SoundLaw.{sound-decides}
 use Rattle.board.proofs.Tests.{no-decides}
 use Rattle.layout.specs.declared.row.Row.{Row}
 use Rattle.layout.specs.Limits.{pageBytes, maxPage}
@@ -34,7 +34,7 @@ use Rattle.page.specs.Writing.{wrote, WriteMet, writeChecks, pageOver, w
 use Rattle.page.specs.Demand1.{WriteDemand1}
 use Rattle.page.proofs.Rows.{boards-fit}
 
-module _ (b : Auction) (page : List ℕ) where
+module _ (b : Board) (page : List ℕ) where
   pub write-spoilt : soundTest b ≡ false → wrote (PageWritten.Refused Spoilt) page ≡ writePageOf b page
   unfolding writePageOf writeBy firstOf
   write-spoilt e = rw e
@@ -62,7 +62,7 @@ module _ (b : Auction) (page : List ℕ) where
         rw (bytes, over) (sym (served-as h))
 
 -- ---- Demand 1
-module _ (b : Auction) (page : List ℕ) where
+module _ (b : Board) (page : List ℕ) where
   unsound : WriteMet b page Spoilt → Sound b → ⊥
   unsound (WriteMet.spoilt f) = f
 
@@ -90,7 +90,7 @@ write-demand-1 b page =
     by-served (Refused s) e = served-apart _ s _ _ (sym e)
 
 -- A sound board's page, with room for any
-pub write-room : (b : Auction) (page : List ℕ) → Sound b → maxPage ≤ length page → writePageOf b page ≡ wrote (PageWritten.Bytes (length (boardPage b))) (pageOver b page)
+pub write-room : (b : Board) (page : List ℕ) → Sound b → maxPage ≤ length page → writePageOf b page ≡ wrote (PageWritten.Bytes (length (boardPage b))) (pageOver b page)
 write-room b page s room =
     let fit = boards-fit b s in
     served-as b page (sound-decides b .complete s) (omega (arith, fit .bytes, fit .most))

@@ -6,7 +6,7 @@ use lib.ListN.{length}
 use Rattle.refusals.specs.Codes.{code}
 use Rattle.refusals.specs.Told.{served, refused}
 use Rattle.refusals.specs.Demand1.{codesOf, Demand1}
-use Rattle.board.specs.declared.record.Auction.{Auction}
+use Rattle.supply.specs.declared.record.Board.{Board}
 use Rattle.layout.specs.declared.row.Row.{Row}
 use Rattle.layout.specs.Page.{IsPageOf}
 use Rattle.layout.specs.Read.{readOf}
@@ -19,7 +19,7 @@ use Rattle.page.specs.Reading.{ReadMet, readChecks, ReadAnswers}
 -- Refused, every byte of the page stays; served, the board's page stands there
 abbrev pub WriteDemand1 : Type 0
 WriteDemand1 =
-    (b : Auction) (page : List ℕ) →
+    (b : Board) (page : List ℕ) →
     Demand1 (WriteMet b page) (writeChecks b (length page))
     (λ r. WriteAnswers b page page (refused r))
     (WriteAnswers b page (pageOver b page) (served (length (boardPage b))))
@@ -39,6 +39,6 @@ ReadDemand1 =
 
 pub record PageOrders : Type 0 where
   -- "Answers when writing: 8 if the lent page is too short, after 13."
-  pub writes : (b : Auction) (room : ℕ) → codesOf (writeChecks b room) ≡ code 13 0 ∷ code 8 0 ∷ []
+  pub writes : (b : Board) (room : ℕ) → codesOf (writeChecks b room) ≡ code 13 0 ∷ code 8 0 ∷ []
   -- "14 at its first bad line .., after 15, then 8 for lists too short"
   pub reads : (s : List ℕ) (l : RowLists) → codesOf (readChecks s l) ≡ code 15 0 ∷ code 14 (lineIn (readOf s)) ∷ code 8 0 ∷ []

@@ -1,11 +1,13 @@
 // Writing: a board's page, into a lent list.
 use board::lent::columns_of;
 use board::record::Auction;
-use board::sound::is_sound_in;
 use board::units::weight_in;
 use layout::write::page_bytes;
 use layout::write::put_page;
 use refusals::Refusal;
+use supply::columns::read_by_item;
+use supply::record::Board;
+use supply::sound::is_sound_in;
 ghost use mathlib.Core.Path.{_≡_};
 ghost use Prim.Native.Nat.{ℕ, _*_, _≤_, _<_};
 ghost use lib.ListN.{length, getD};
@@ -21,18 +23,18 @@ pub enum PageWritten {
     Refused(Refusal),
 }
 
-// The weight of bidder i + 1's edge at an item, 0 for no item.
-fn weight_held(weights: &[u32; Auction::MAX_CELLS], i: usize, item: usize) -> u64
-    requires { ⌜ (length (now weights) ≡ maxBidders * maxItems) × (i < maxBidders) × (item ≤ maxItems) ⌝ }
-    ensures { λ r. ⌜ r ≡ atCell (λ k. getD (rowIn (now (weights .entry)) i) k 0) item ⌝ }
+// The weight of bidder i + 1's edge at a place, 0 for no place.
+fn weight_held(weights: &[u32; Auction::MAX_CELLS], i: usize, place: usize) -> u64
+    requires { ⌜ (length (now weights) ≡ maxBidders * maxItems) × (i < maxBidders) × (place ≤ maxItems) ⌝ }
+    ensures { λ r. ⌜ r ≡ atCell (λ k. getD (rowIn (now (weights .entry)) i) k 0) place ⌝ }
 {
-    if item == 0 {
+    if place == 0 {
         return 0;
     }
-    weight_in(weights[i * Auction::MAX_ITEMS + (item - 1)]).0
+    weight_in(weights[i * Auction::MAX_ITEMS + (place - 1)]).0
 }
 
-// The same for each of the first bidders, at the item that it has.
+// The same for each of the first bidders, at the place that it has.
 fn weights_held(
     weights: &[u32; Auction::MAX_CELLS],
     plan: [u64; Auction::MAX_BIDDERS],
@@ -51,20 +53,23 @@ fn weights_held(
 }
 
 // Writes the page of a board, and answers how many bytes it has.
-pub fn write_page(auction: Auction, page: &mut [u8]) -> PageWritten
-    ensures { λ r. ⌜ wrote r (now (page .exit)) ≡ writePageOf auction (now (page .entry)) ⌝ }
+pub fn write_page(board: Board, page: &mut [u8]) -> PageWritten
+    ensures { λ r. ⌜ wrote r (now (page .exit)) ≡ writePageOf board (now (page .entry)) ⌝ }
 {
-    let market = auction.market;
-    let state = auction.state;
-    if !is_sound_in(market, &auction.weights, state) {
+    let items = board.items;
+    let market = board.market;
+    let state = board.state;
+    if !is_sound_in(items, market, &board.weights, state) {
         return PageWritten::Refused(Refusal::Spoilt);
     }
     let bidders = market.arrived as usize;
     if page.len() < page_bytes(bidders) {
         return PageWritten::Refused(Refusal::Short);
     }
-    let columns = columns_of(state, market.items as usize);
-    let weights = weights_held(&auction.weights, columns.plan, bidders);
+    let by_place = columns_of(state, market.items as usize);
+    let plan = by_place.plan;
+    let weights = weights_held(&board.weights, plan, bidders);
+    let columns = read_by_item(by_place, items, bidders);
     let bytes = put_page(page, &columns.plan, &weights, &columns.gains, bidders);
     PageWritten::Bytes(bytes as u64)
 }

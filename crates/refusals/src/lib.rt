@@ -1,8 +1,8 @@
-// What is refused: the rows of document 01's table, with their numbers and places.
+// What is refused: the rows of document 01's table, and those that document 02 adds, with their numbers and places.
 ghost use mathlib.Core.Path.{_≡_};
 ghost use Rattle.refusals.specs.Codes.{codeOf};
 
-// The refusals of document 01's table, each by its word; a place where it has one.
+// The refusals of the table, each by its word; a place where it has one.
 pub enum Refusal {
     Count,
     Slack,
@@ -19,6 +19,7 @@ pub enum Refusal {
     Spoilt,
     Line(u64),
     Long,
+    Places(u64),
 }
 
 // Whether a call is served.
@@ -56,6 +57,7 @@ impl Refusal {
             Refusal::Spoilt => 13,
             Refusal::Line(_) => 14,
             Refusal::Long => 15,
+            Refusal::Places(_) => 16,
         }
     }
 
@@ -79,6 +81,7 @@ impl Refusal {
             Refusal::Spoilt => 0,
             Refusal::Line(place) => place,
             Refusal::Long => 0,
+            Refusal::Places(place) => place,
         }
     }
 }

@@ -1,4 +1,5 @@
 -- Proofs of the statements in specs/, and the laws that the functions' proofs cite.
+pub mod Counting
 pub mod LinePairs
 pub mod ReplayForms
 pub mod ReplayLaws

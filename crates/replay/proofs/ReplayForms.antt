@@ -1,8 +1,8 @@
 -- What a line says, by its form; and the pairs of its numbers.
 use mathlib.Core.Path.{_≡_, refl, _∙_}
 use mathlib.Core.Bool.{Bool, true, false, _&&_}
-use mathlib.Core.List.{List}
-use Prim.Native.Nat.{ℕ, zero, suc, _+_, _*_, _/_, _%_, _<_, min}
+use mathlib.Core.List.{List, []}
+use Prim.Native.Nat.{ℕ, zero, suc, _+_, _-_, _*_, _/_, _%_, _<_, min}
 use native.Mathlib.Omega.{arith}
 use lib.ListN.{length, getD, set, take}
 use lib.Seq.{getD-set-same, getD-set-other}
@@ -11,21 +11,25 @@ use borrow.Author.Tests.{eqb-true, ne-eqb}
 use Rattle.duality.proofs.Below.{one-more}
 use Rattle.text.specs.declared.line.Line.{Line}
 use Rattle.text.proofs.Numbers.{both}
-use Rattle.board.specs.declared.record.Auction.{Auction}
+use Rattle.supply.specs.declared.record.Board.{Board}
 use Rattle.board.specs.declared.record.Edge.{Edge}
 use Rattle.refusals.specs.declared.Refusal.{Refusal}
 use Rattle.replay.specs.declared.Replayed.{Replayed}
 use Rattle.board.specs.Limits.{maxEdges}
 use Rattle.bidding.specs.Rule.{Outcome}
+use Rattle.refusals.specs.Demand1.{firstOf}
 use Rattle.auction.specs.Edges.{edgesFrom}
-use Rattle.board.specs.Opening.{opened}
+use Rattle.supply.specs.Opening.{opened}
 use Rattle.auction.specs.Arrive.{arriveOf}
 use Rattle.auction.specs.Withdraw.{withdrawOf}
-use Rattle.replay.specs.Replay.{opens, arrives, withdraws, pairsOf, commandOf, stopped, afterArrival, afterWithdrawal, carryOut, firstLine}
+use Rattle.replay.specs.Replay.{opens, places, arrives, withdraws, pairsOf, commandOf, stopped, afterArrival, afterWithdrawal, carryOut, placeChecks, afterPlaces, placeLine, firstLine}
 
 -- The forms, as tests
 abbrev pub isOpening : Line → Bool
 isOpening l = eqb (l .letter) 75 && eqb (l .count) 3
+
+abbrev pub isPlaces : Line → Bool
+isPlaces l = eqb (l .letter) 80 && eqb (l .count) 2
 
 abbrev pub isArrival : Line → Bool
 isArrival l = eqb (l .letter) 65 && eqb (l .count % 2) 0
@@ -49,18 +53,22 @@ module _ (l : Line) where
   unfolding commandOf
   says-opens e = rw e
 
+  pub says-places : isPlaces l ≡ true → commandOf l ≡ places (getD (l .numbers) 0 0) (getD (l .numbers) 1 0)
+  unfolding commandOf
+  says-places e = let a = letter-is 80 (eqb (l .count) 2) e in rw (ne-eqb (l .letter) 75 (λ q. omega arith), e)
+
   pub says-arrives : isArrival l ≡ true → commandOf l ≡ arrives (edgesSaid l)
   unfolding commandOf
-  says-arrives e = let a = letter-is 65 (eqb (l .count % 2) 0) e in rw (ne-eqb (l .letter) 75 (λ q. omega arith), e)
+  says-arrives e = let a = letter-is 65 (eqb (l .count % 2) 0) e in rw (ne-eqb (l .letter) 75 (λ q. omega arith), ne-eqb (l .letter) 80 (λ q. omega arith), e)
 
   pub says-withdraws : isWithdrawal l ≡ true → commandOf l ≡ withdraws (itemsSaid l)
   unfolding commandOf
   says-withdraws e =
       let a = letter-is 87 (ltb 0 (l .count)) e in
-      rw (ne-eqb (l .letter) 75 (λ q. omega arith), ne-eqb (l .letter) 65 (λ q. omega arith), e)
+      rw (ne-eqb (l .letter) 75 (λ q. omega arith), ne-eqb (l .letter) 80 (λ q. omega arith), ne-eqb (l .letter) 65 (λ q. omega arith), e)
 
   -- A line after the first: an arrival, a withdrawal, or else a further `K` or no form
-  module _ (next : Auction → ℕ → Outcome Replayed) (n : ℕ) (b : Auction) (bids : ℕ) where
+  module _ (next : Board → ℕ → Outcome Replayed) (n : ℕ) (b : Board) (bids : ℕ) where
     pub carries-arrival : isArrival l ≡ true → carryOut next n b bids (commandOf l) ≡ afterArrival next n bids (arriveOf b (edgesSaid l))
     unfolding carryOut
     carries-arrival e = rw (says-arrives e)
@@ -71,21 +79,41 @@ module _ (l : Line) where
 
     pub carries-none : isArrival l ≡ false → isWithdrawal l ≡ false → carryOut next n b bids (commandOf l) ≡ stopped b bids (Refusal.Line n) n
     unfolding commandOf carryOut
-    carries-none e f = go (isOpening l) refl
+    carries-none e f = go (isOpening l) (isPlaces l) refl refl
       where
-        go : (t : Bool) → isOpening l ≡ t → carryOut next n b bids (commandOf l) ≡ stopped b bids (Refusal.Line n) n
-        go true q = rw q
-        go false q = rw (q, e, f)
+        go : (t u : Bool) → isOpening l ≡ t → isPlaces l ≡ u → carryOut next n b bids (commandOf l) ≡ stopped b bids (Refusal.Line n) n
+        go true u q p = rw q
+        go false true q p = rw (q, p)
+        go false false q p = rw (q, p, e, f)
+
+  -- A line while the board is being opened: one of places, or any other
+  module _ (next : ℕ → List ℕ → Outcome Replayed) (rest : Outcome Replayed) (n items p q low : ℕ) (counts : List ℕ) where
+    pub places-goes : isPlaces l ≡ true → placeLine next rest n items p q low counts (commandOf l) ≡
+        afterPlaces (next (getD (l .numbers) 0 0) (set counts (getD (l .numbers) 0 0 - 1) (getD (l .numbers) 1 0))) n (opened p q counts)
+        (firstOf (placeChecks items p q low counts (getD (l .numbers) 0 0) (getD (l .numbers) 1 0)))
+    unfolding placeLine
+    places-goes e = rw (says-places e)
+
+    pub places-none : isPlaces l ≡ false → placeLine next rest n items p q low counts (commandOf l) ≡ rest
+    unfolding commandOf placeLine
+    places-none e = go (isOpening l) (isArrival l) (isWithdrawal l) refl refl refl
+      where
+        go : (t u v : Bool) → isOpening l ≡ t → isArrival l ≡ u → isWithdrawal l ≡ v → placeLine next rest n items p q low counts (commandOf l) ≡ rest
+        go true u v x y z = rw x
+        go false true v x y z = rw (x, e, y)
+        go false false true x y z = rw (x, e, y, z)
+        go false false false x y z = rw (x, e, y, z)
 
   -- The first line, where it is no `K`
-  pub opens-none : isOpening l ≡ false → (s : List ℕ) (at : ℕ) → firstLine s at (commandOf l) ≡ stopped (opened 0 0 0) 0 (Refusal.Line 1) 1
+  pub opens-none : isOpening l ≡ false → (s : List ℕ) (at : ℕ) → firstLine s at (commandOf l) ≡ stopped (opened 0 0 []) 0 (Refusal.Line 1) 1
   unfolding commandOf firstLine
-  opens-none e s at = go (isArrival l) (isWithdrawal l) refl refl
+  opens-none e s at = go (isPlaces l) (isArrival l) (isWithdrawal l) refl refl refl
     where
-      go : (t u : Bool) → isArrival l ≡ t → isWithdrawal l ≡ u → firstLine s at (commandOf l) ≡ stopped (opened 0 0 0) 0 (Refusal.Line 1) 1
-      go true u q p = rw (e, q)
-      go false true q p = rw (e, q, p)
-      go false false q p = rw (e, q, p)
+      go : (v t u : Bool) → isPlaces l ≡ v → isArrival l ≡ t → isWithdrawal l ≡ u → firstLine s at (commandOf l) ≡ stopped (opened 0 0 []) 0 (Refusal.Line 1) 1
+      go true t u r q p = rw (e, r)
+      go false true u r q p = rw (e, r, q)
+      go false false true r q p = rw (e, r, q, p)
+      go false false false r q p = rw (e, r, q, p)
 
 -- ---- The pairs, in two lists
 module _ (numbers items weights : List ℕ) where

@@ -1,22 +1,28 @@
 // The replay of a history text: "each line is tested and carried out before the next". The board stays sound from line to line and is not tested at
 // every one; its weights, most of the board, are lent and not passed on.
 mod lines; // a line carried out
+mod places; // the lines that say how many places an item has
 
 use crate::lines::carry_out;
 use crate::lines::is_record;
-use board::opening::Opened;
-use board::opening::empty;
+use crate::places::at_line;
+use crate::places::ones_verdict;
+use crate::places::try_places;
 use board::record::Auction;
 use refusals::Refusal;
+use refusals::Verdict;
+use supply::opening::empty_board;
+use supply::record::Board;
 use text::line::line_at;
 ghost use mathlib.Core.Path.{_≡_};
-ghost use Prim.Native.Nat.{suc, _≤_};
+ghost use Prim.Native.Nat.{suc, _+_, _≤_};
 ghost use lib.ListN.{length};
 ghost use Rattle.board.specs.Limits.{maxText};
-ghost use Rattle.board.specs.Opening.{opened};
+ghost use Rattle.supply.specs.Opening.{Counts, opened};
 ghost use Rattle.bidding.specs.Rule.{done};
-ghost use Rattle.replay.specs.Replay.{stopped, linesFrom, replayOf};
+ghost use Rattle.replay.specs.Replay.{stopped, linesFrom, placeLines, ones, replayOf};
 ghost use Rattle.replay.specs.ReplayLaws.{ReachedBy};
+ghost use Rattle.replay.specs.Counted.{Counted};
 
 // How a replay ends: at the end of the text, or with a refusal at a line.
 pub enum Ending {
@@ -26,34 +32,35 @@ pub enum Ending {
 
 // The board that the replay came to, and the bids in all.
 pub struct Replayed {
-    pub auction: Auction,
+    pub board: Board,
     pub bids: u64,
     pub answer: Ending,
 }
 
-// The lines after the first, from a position on.
-fn replay_lines(text: &[u8], start: usize, mut auction: Auction) -> Replayed
-    requires { ⌜ (length (now text) ≤ maxText) × (start ≤ length (now text)) × ReachedBy auction 0 ⌝ }
-    ensures { λ r. ⌜ done r ≡ linesFrom (suc (length (now (text .entry)))) (now (text .entry)) start 2 auction 0 ⌝ }
+// The lines after those that open the board, from a position on; the first of them is line `first`.
+fn replay_lines(text: &[u8], start: usize, first: u64, mut board: Board) -> Replayed
+    requires { ⌜ (length (now text) ≤ maxText) × (start ≤ length (now text)) × (first ≤ maxText + 2) × ReachedBy board 0 ⌝ }
+    ensures { λ r. ⌜ done r ≡ linesFrom (suc (length (now (text .entry)))) (now (text .entry)) start first board 0 ⌝ }
 {
     let mut bids: u64 = 0;
     let mut at = start;
-    let mut n: u64 = 2;
+    let mut n = first;
     while at < text.len() {
         let line = line_at(text, at);
         let next = line.next;
-        let market = auction.market;
-        let state = auction.state;
-        let progress = carry_out(market, &mut auction.weights, state, bids, line, n);
+        let items = board.items;
+        let market = board.market;
+        let state = board.state;
+        let progress = carry_out(items, market, &mut board.weights, state, bids, line, n);
         let after = progress.market;
-        auction.market = after;
+        board.market = after;
         let settled = progress.state;
-        auction.state = settled;
+        board.state = settled;
         bids = progress.bids;
         let answer = progress.answer;
         let Ending::Finished = answer else {
             return Replayed {
-                auction,
+                board,
                 bids,
                 answer,
             };
@@ -62,20 +69,58 @@ fn replay_lines(text: &[u8], start: usize, mut auction: Auction) -> Replayed
         n += 1;
     }
     Replayed {
-        auction,
+        board,
         bids,
         answer: Ending::Finished,
     }
 }
 
-// A text that is refused before a board is opened.
-fn refused(refusal: Refusal, line: u64) -> Replayed
-    ensures { λ r. ⌜ done r ≡ stopped (opened 0 0 0) 0 refusal line ⌝ }
+// A text that is refused while its board is being opened.
+fn refused(p: u64, q: u64, counts: &[u64], refusal: Refusal, line: u64) -> Replayed
+    requires { ⌜ Counts (now counts) ⌝ }
+    ensures { λ r. ⌜ done r ≡ stopped (opened p q (now (counts .entry))) 0 refusal line ⌝ }
 {
     Replayed {
-        auction: empty(0, 0, 0),
+        board: empty_board(p, q, counts),
         bids: 0,
         answer: Ending::Stopped(refusal, line),
+    }
+}
+
+// The lines after the first, from a position on: those of places, each of which adds a count to those that the board is opened with, and then the others.
+fn replay_places(text: &[u8], start: usize, items: u64, p: u64, q: u64) -> Replayed
+    requires { ⌜ (length (now text) ≤ maxText) × (start ≤ length (now text)) × Counted items p q (ones items) ⌝ }
+    ensures { λ r. ⌜ done r ≡ placeLines (suc (length (now (text .entry)))) (now (text .entry)) start 2 items p q 0 (ones items) ⌝ }
+{
+    let count = items as usize;
+    let mut counts = [1u64; Auction::MAX_ITEMS];
+    let mut low: u64 = 0;
+    let mut at = start;
+    let mut n: u64 = 2;
+    while at < text.len() {
+        let line = line_at(text, at);
+        if !is_record(line.letter, b'P', line.count == 2) {
+            let all: &[u64] = &counts;
+            return replay_lines(text, at, n, empty_board(p, q, &all[0..count]));
+        }
+        let item = line.numbers[0];
+        let tried = try_places(items, p, q, low, counts, item, line.numbers[1]);
+        let verdict = tried.verdict;
+        if let Verdict::Refused(refusal) = verdict {
+            let all: &[u64] = &counts;
+            return refused(p, q, &all[0..count], refusal, at_line(refusal, n));
+        }
+        let more = tried.counts;
+        counts = more;
+        low = item;
+        at = line.next;
+        n += 1;
+    }
+    let all: &[u64] = &counts;
+    Replayed {
+        board: empty_board(p, q, &all[0..count]),
+        bids: 0,
+        answer: Ending::Finished,
     }
 }
 
@@ -83,22 +128,20 @@ fn refused(refusal: Refusal, line: u64) -> Replayed
 pub fn replay(text: &[u8]) -> Replayed
     ensures { λ r. ⌜ done r ≡ replayOf (now (text .entry)) ⌝ }
 {
+    let none: &[u64] = &[0u64; 0];
     if text.len() > Auction::MAX_TEXT {
-        return refused(Refusal::Long, 0);
+        return refused(0, 0, none, Refusal::Long, 0);
     }
     let line = line_at(text, 0);
     if !is_record(line.letter, b'K', line.count == 3) {
-        return refused(Refusal::Line(1), 1);
+        return refused(0, 0, none, Refusal::Line(1), 1);
     }
-    let opening = Auction::open(line.numbers[0], line.numbers[1], line.numbers[2]);
-    let auction = opening.auction;
-    let answer = opening.answer;
-    let Opened::Refused(refusal) = answer else {
-        return replay_lines(text, line.next, auction);
+    let items = line.numbers[0];
+    let p = line.numbers[1];
+    let q = line.numbers[2];
+    let verdict = ones_verdict(items, p, q);
+    let Verdict::Refused(refusal) = verdict else {
+        return replay_places(text, line.next, items, p, q);
     };
-    Replayed {
-        auction,
-        bids: 0,
-        answer: Ending::Stopped(refusal, 1),
-    }
+    refused(0, 0, none, refusal, 1)
 }

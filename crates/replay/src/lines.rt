@@ -10,6 +10,7 @@ use board::record::Auction;
 use board::record::Market;
 use board::record::State;
 use refusals::Refusal;
+use supply::record::Items;
 use text::line::KEPT;
 use text::line::Line;
 ghost use mathlib.Core.Path.{_≡_};
@@ -17,7 +18,7 @@ ghost use mathlib.Core.Bool.{_&&_};
 ghost use Prim.Native.Nat.{_/_, min};
 ghost use lib.Dec.{eqb};
 ghost use Rattle.board.specs.Limits.{maxEdges};
-ghost use Rattle.board.specs.Cells.{auction};
+ghost use Rattle.supply.specs.Board.{board};
 ghost use Rattle.bidding.specs.Rule.{done};
 ghost use Rattle.auction.specs.Edges.{bufferEdges};
 ghost use Rattle.auction.specs.Arrive.{arriveOf};
@@ -64,6 +65,7 @@ fn edges_of(numbers: &[u64; KEPT], count: usize) -> EdgeBuffer
 
 // Line n is an arrival: carried out, or refused there.
 fn carry_arrival(
+    items: Items,
     market: Market,
     weights: &mut [u32; Auction::MAX_CELLS],
     state: State,
@@ -71,11 +73,11 @@ fn carry_arrival(
     edges: EdgeBuffer,
     n: u64,
 ) -> Progress
-    requires { ⌜ ReachedBy (auction market (now weights) state) bids ⌝ }
-    ensures { λ r. ⌜ done (replayed (auction (r .market) (now (weights .exit)) (r .state)) (r .bids) (r .answer)) ≡
-        afterArrival finished n bids (arriveOf (auction market (now (weights .entry)) state) (bufferEdges edges)) ⌝ }
+    requires { ⌜ ReachedBy (board items market (now weights) state) bids ⌝ }
+    ensures { λ r. ⌜ done (replayed (board items (r .market) (now (weights .exit)) (r .state)) (r .bids) (r .answer)) ≡
+        afterArrival finished n bids (arriveOf (board items market (now (weights .entry)) state) (bufferEdges edges)) ⌝ }
 {
-    let end = arrive_in(market, weights, state, edges);
+    let end = arrive_in(items, market, weights, state, edges);
     let after = end.market;
     let settled = end.state;
     let answer = end.answer;
@@ -97,18 +99,19 @@ fn carry_arrival(
 
 // Line n is a withdrawal of some of its numbers: carried out, or refused there.
 fn carry_withdrawal(
+    items: Items,
     market: Market,
     weights: &[u32; Auction::MAX_CELLS],
     state: State,
     bids: u64,
-    items: &[u64],
+    list: &[u64],
     n: u64,
 ) -> Progress
-    requires { ⌜ ReachedBy (auction market (now weights) state) bids ⌝ }
-    ensures { λ r. ⌜ done (replayed (auction (r .market) (now (weights .entry)) (r .state)) (r .bids) (r .answer)) ≡
-        afterWithdrawal finished n bids (withdrawOf (auction market (now (weights .entry)) state) (now (items .entry))) ⌝ }
+    requires { ⌜ ReachedBy (board items market (now weights) state) bids ⌝ }
+    ensures { λ r. ⌜ done (replayed (board items (r .market) (now (weights .entry)) (r .state)) (r .bids) (r .answer)) ≡
+        afterWithdrawal finished n bids (withdrawOf (board items market (now (weights .entry)) state) (now (list .entry))) ⌝ }
 {
-    let end = withdraw_in(market, weights, state, items);
+    let end = withdraw_in(items, market, weights, state, list);
     let after = end.market;
     let settled = end.state;
     let answer = end.answer;
@@ -128,8 +131,9 @@ fn carry_withdrawal(
     }
 }
 
-// Line n, not the first: "A line's form (14) is tested before its meaning". A further `K` is not of the form.
+// Line n, after those that open the board: "A line's form (14) is tested before its meaning". A further `K`, and a later `P`, is not of the form.
 pub(crate) fn carry_out(
+    items: Items,
     market: Market,
     weights: &mut [u32; Auction::MAX_CELLS],
     state: State,
@@ -137,18 +141,18 @@ pub(crate) fn carry_out(
     line: Line,
     n: u64,
 ) -> Progress
-    requires { ⌜ ReachedBy (auction market (now weights) state) bids ⌝ }
-    ensures { λ r. ⌜ done (replayed (auction (r .market) (now (weights .exit)) (r .state)) (r .bids) (r .answer)) ≡
-        carryOut finished n (auction market (now (weights .entry)) state) bids (commandOf line) ⌝ }
+    requires { ⌜ ReachedBy (board items market (now weights) state) bids ⌝ }
+    ensures { λ r. ⌜ done (replayed (board items (r .market) (now (weights .exit)) (r .state)) (r .bids) (r .answer)) ≡
+        carryOut finished n (board items market (now (weights .entry)) state) bids (commandOf line) ⌝ }
 {
     if is_record(line.letter, b'A', line.count % 2 == 0) {
         let edges = edges_of(&line.numbers, line.count);
-        return carry_arrival(market, weights, state, bids, edges, n);
+        return carry_arrival(items, market, weights, state, bids, edges, n);
     }
     if is_record(line.letter, b'W', 0 < line.count) {
         let numbers: &[u64] = &line.numbers;
-        let items = &numbers[0..enough(line.count)];
-        return carry_withdrawal(market, weights, state, bids, items, n);
+        let list = &numbers[0..enough(line.count)];
+        return carry_withdrawal(items, market, weights, state, bids, list, n);
     }
     Progress {
         market,

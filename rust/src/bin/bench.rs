@@ -5,7 +5,7 @@ use noughtelm_tests::fast::{self, exact::greatest_weight};
 use noughtelm_tests::ffi::{self, MAX_OUTPUT};
 use noughtelm_tests::gen::history::{Call, History};
 use noughtelm_tests::gen::sheet::{edges, sheet, Pattern};
-use noughtelm_tests::gen::text::write;
+use noughtelm_tests::gen::text::{dense_places, write};
 use noughtelm_tests::model::auction::{Edge, Slack};
 use noughtelm_tests::rng::Rng;
 use std::hint::black_box;
@@ -30,7 +30,7 @@ fn case(pattern: Pattern, bidders: u64, items: u64, slack: Slack) -> Case {
     let pair = |edge: &Edge| [edge.item as u32, edge.weight as u32];
     let plain = lists.iter().map(|list| list.iter().flat_map(pair).collect()).collect();
     let calls = lists.into_iter().map(Call::Arrive).collect();
-    let text = write(&History { items, slack, calls });
+    let text = write(&History::of_ones(items, slack, calls));
     Case { items, slack, ours, plain, text }
 }
 
@@ -59,7 +59,7 @@ fn medians<const N: usize>(runs: usize, mut work: [&mut dyn FnMut(); N]) -> [Dur
     })
 }
 
-fn ours_by_calls(case: &Case) -> (ffi::Auction, u64) {
+fn ours_by_calls(case: &Case) -> (ffi::Board, u64) {
     let mut board = ffi::open(case.items, case.slack.p, case.slack.q).board;
     let mut bids = 0;
     for list in &case.ours {
@@ -135,19 +135,23 @@ fn whole_texts() {
     head("the whole text, to the printed bytes", "          ours    plain Rust   ratio");
     for (bidders, items) in [(4, 4), (32, 16), (128, 64)] {
         let case = case(Pattern::UpTo(9_999), bidders, items, Slack { p: 1, q: 100 });
-        let text = &case.text;
-        let mut out = Box::new([0; MAX_OUTPUT]);
-        let told = ffi::sheet_text(text, &mut out[..]);
-        assert_eq!((told.number, &out[..told.value as usize]), (0, &fast::text::sheet(text)[..]));
-        let [ours, plain] = medians(
-            RUNS,
-            [&mut || keep(ffi::sheet_text(black_box(text), &mut out[..])), &mut || {
-                keep(fast::text::sheet(black_box(text)))
-            }],
-        );
-        let name = format!("{bidders} bidders, {items} items, {} bytes", text.len());
-        row(&name, micros(ours), micros(plain), ratio(ours, plain));
+        whole_text(&format!("{bidders} bidders, {items} items"), &case.text);
     }
+    whole_text("128 bidders, 16 items of 4 places", &dense_places());
+}
+
+fn whole_text(name: &str, text: &[u8]) {
+    let mut out = Box::new([0; MAX_OUTPUT]);
+    let told = ffi::sheet_text(text, &mut out[..]);
+    assert_eq!((told.number, &out[..told.value as usize]), (0, &fast::text::sheet(text)[..]));
+    let [ours, plain] = medians(
+        RUNS,
+        [&mut || keep(ffi::sheet_text(black_box(text), &mut out[..])), &mut || {
+            keep(fast::text::sheet(black_box(text)))
+        }],
+    );
+    let name = format!("{name}, {} bytes", text.len());
+    row(&name, micros(ours), micros(plain), ratio(ours, plain));
 }
 
 fn exact_level() {

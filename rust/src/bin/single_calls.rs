@@ -6,7 +6,7 @@ use noughtelm_tests::gen::text::dense;
 use std::hint::black_box;
 
 /// 127 bidders with an edge at each of 64 items, weights to 9,999, slack 1/100.
-fn full_board() -> Auction {
+fn full_board() -> Board {
     let mut board = open(64, 1, 100).board;
     let mut x: u64 = 1;
     for _ in 0..MAX_BIDDERS - 1 {
@@ -22,26 +22,28 @@ fn full_board() -> Auction {
 
 /// A withdrawal, refused or of one item or of half of them: each by a symbol of its own.
 #[inline(never)]
-fn withdraw_refused(board: Auction) -> Answer {
+fn withdraw_refused(board: Board) -> Answer {
     withdraw(board, &[0])
 }
 
 #[inline(never)]
-fn withdraw_one(board: Auction) -> Answer {
+fn withdraw_one(board: Board) -> Answer {
     withdraw(board, &[32])
 }
 
 #[inline(never)]
-fn withdraw_half(board: Auction) -> Answer {
+fn withdraw_half(board: Board) -> Answer {
     let items: Vec<u64> = (1..=32).collect();
     withdraw(board, &items)
 }
 
 /// The board's own plan, without a call that reads it out.
-fn plan_of(board: &Auction) -> Vec<u64> {
+fn plan_of(board: &Board) -> Vec<u64> {
     let mut plan = vec![0; board.arrived as usize];
-    for (item, &holder) in board.holder.iter().enumerate().filter(|(_, &holder)| holder != 0) {
-        plan[holder as usize - 1] = item as u64 + 1;
+    for item in 0..board.items.count as usize {
+        for &holder in board.holder[board.places_of(item)].iter().filter(|&&holder| holder != 0) {
+            plan[holder as usize - 1] = item as u64 + 1;
+        }
     }
     plan
 }

@@ -2,22 +2,26 @@
 //! call: "the bid bound and share are wanted for any list" (document 02, R-3).
 
 use super::{equal, Both, Same, Tally};
-use crate::gen::history::Call;
-use crate::laws::{bids_are_bounded, on_board, require};
+use crate::gen::history::{Call, History};
+use crate::laws::{bids_are_bounded, on_board, places_at, require};
 use crate::model::auction::{Edge, Slack};
 use crate::model::refusal::Refusal;
 
 pub struct Watched<'a> {
     pub both: Both<'a>,
-    /// Edges accepted and bids made, both in all.
+    /// Edges accepted, once per place, and bids made, both in all.
     accepted: u64,
     bids: u64,
 }
 
 impl Watched<'_> {
     pub fn open(items: u64, slack: Slack, seen: &mut Tally) -> Same<Watched<'_>> {
-        let both = Both::open(items, slack, seen)?.expect("it opens");
-        Ok(Watched { both, accepted: 0, bids: 0 })
+        Watched::opened(&History::of_ones(items, slack, Vec::new()), seen)
+    }
+
+    /// The board of a history before its calls.
+    pub fn opened<'a>(history: &History, seen: &'a mut Tally) -> Same<Watched<'a>> {
+        Ok(Watched { both: Both::opened(history, seen)?, accepted: 0, bids: 0 })
     }
 
     pub fn call(&mut self, call: &Call) -> Same<Result<u64, Refusal>> {
@@ -30,7 +34,7 @@ impl Watched<'_> {
     pub fn arrive(&mut self, edges: &[Edge]) -> Same<Result<u64, Refusal>> {
         let answer = self.both.arrive(edges)?;
         if let Ok(bids) = answer {
-            self.accepted += edges.len() as u64;
+            self.accepted += places_at(&self.both.ours, edges.iter().map(|edge| edge.item));
             self.bids += bids;
         }
         self.laws()?;

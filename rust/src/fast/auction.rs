@@ -1,41 +1,51 @@
-//! The auction in fixed arrays. Items and bidders count from 0 here.
+//! The auction in fixed arrays. Items, places and bidders count from 0 here; the places of
+//! an item stand side by side.
+
+use std::ops::Range;
 
 pub const ITEMS: usize = 64;
+pub const PLACES: usize = 64;
 pub const BIDDERS: usize = 128;
+const MAX_COUNT: u32 = 8;
 const MAX_WEIGHT: u32 = 1_000_000;
 const MAX_Q: u32 = 1_000;
 
 /// No bidder, in `holder`.
 pub const FREE: u8 = u8::MAX;
 
+/// An edge at one of the places of its item.
 #[derive(Clone, Copy)]
 pub struct Edge {
-    pub item: u8,
+    pub place: u8,
     pub weight: u32,
 }
 
 pub struct Auction {
     pub items: usize,
+    /// How many places each item has.
+    counts: [u8; ITEMS],
+    /// The first place of each item, and the end of the last.
+    first: [u8; ITEMS + 1],
     pub arrived: usize,
     pub p: u64,
     pub q: u64,
-    pub price: [u64; ITEMS],
-    pub holder: [u8; ITEMS],
-    pub withdrawn: [bool; ITEMS],
+    pub price: [u64; PLACES],
+    pub holder: [u8; PLACES],
+    pub withdrawn: [bool; PLACES],
     pub gain: [u64; BIDDERS],
     degree: [u8; BIDDERS],
-    edges: [[Edge; ITEMS]; BIDDERS],
+    edges: [[Edge; PLACES]; BIDDERS],
 }
 
-/// An open edge that a bidder may take.
+/// An open edge that a bidder may take, at a place of its item.
 struct Choice {
-    item: usize,
+    place: usize,
     weight: u64,
     utility: u64,
 }
 
 impl Auction {
-    /// The auction, or the number of a refusal.
+    /// The auction with one place for each item, or the number of a refusal.
     pub fn open(items: u32, p: u32, q: u32) -> Result<Auction, u32> {
         if items < 1 || items > ITEMS as u32 {
             return Err(1);
@@ -43,18 +53,55 @@ impl Auction {
         if p < 1 || p >= q || q > MAX_Q {
             return Err(2);
         }
-        Ok(Auction {
+        let mut auction = Auction {
             items: items as usize,
+            counts: [1; ITEMS],
+            first: [0; ITEMS + 1],
             arrived: 0,
             p: p as u64,
             q: q as u64,
-            price: [0; ITEMS],
-            holder: [FREE; ITEMS],
-            withdrawn: [false; ITEMS],
+            price: [0; PLACES],
+            holder: [FREE; PLACES],
+            withdrawn: [false; PLACES],
             gain: [0; BIDDERS],
             degree: [0; BIDDERS],
-            edges: [[Edge { item: 0, weight: 0 }; ITEMS]; BIDDERS],
-        })
+            edges: [[Edge { place: 0, weight: 0 }; PLACES]; BIDDERS],
+        };
+        auction.line_up();
+        Ok(auction)
+    }
+
+    /// An item has so many places; no bidder has arrived. The item of the call before is
+    /// `before`, 0 for none.
+    pub fn set_places(&mut self, item: u32, count: u32, before: u32) -> Result<(), u32> {
+        if item < 1 || item as usize > self.items {
+            return Err(4);
+        }
+        if item <= before {
+            return Err(7);
+        }
+        if !(1..=MAX_COUNT).contains(&count) {
+            return Err(16);
+        }
+        self.counts[item as usize - 1] = count as u8;
+        self.line_up();
+        Ok(())
+    }
+
+    /// Sets the first place of each item.
+    fn line_up(&mut self) {
+        for item in 0..self.items {
+            self.first[item + 1] = self.first[item] + self.counts[item];
+        }
+    }
+
+    /// How many places there are in all.
+    pub fn places(&self) -> usize {
+        self.first[self.items] as usize
+    }
+
+    pub fn places_of(&self, item: usize) -> Range<usize> {
+        self.first[item] as usize..self.first[item + 1] as usize
     }
 
     /// A new bidder with these pairs of item and weight; the number of bids.
@@ -63,14 +110,17 @@ impl Auction {
         if bidder == BIDDERS {
             return Err(3);
         }
-        let mut before = 0;
-        for (at, pair) in pairs.chunks_exact(2).enumerate() {
+        let (mut before, mut degree) = (0, 0);
+        for pair in pairs.chunks_exact(2) {
             let (item, weight) = (pair[0], pair[1]);
             self.admit(item, weight, before)?;
-            self.edges[bidder][at] = Edge { item: item as u8 - 1, weight };
+            for place in self.places_of(item as usize - 1) {
+                self.edges[bidder][degree] = Edge { place: place as u8, weight };
+                degree += 1;
+            }
             before = item;
         }
-        self.degree[bidder] = (pairs.len() / 2) as u8;
+        self.degree[bidder] = degree as u8;
         self.arrived += 1;
         Ok(self.settle(bidder))
     }
@@ -92,10 +142,15 @@ impl Auction {
             return Err(4);
         }
         let index = item as usize - 1;
-        if self.withdrawn[index] {
+        if self.is_gone(index) {
             return Err(5);
         }
         Ok(index)
+    }
+
+    /// Whether an item is withdrawn.
+    pub fn is_gone(&self, item: usize) -> bool {
+        self.withdrawn[self.first[item] as usize]
     }
 
     /// All of these items leave, then their holders bid in the order of their
@@ -109,7 +164,11 @@ impl Auction {
             }
             before = item;
         }
-        let mut displaced = items.iter().fold(0, |set, &item| set | self.remove(item as usize - 1));
+        let mut displaced = 0;
+        for &item in items {
+            let places = self.places_of(item as usize - 1);
+            displaced |= places.fold(0, |set, place| set | self.remove(place));
+        }
         let mut bids = 0;
         while displaced != 0 {
             bids += self.settle(displaced.trailing_zeros() as usize);
@@ -118,11 +177,11 @@ impl Auction {
         Ok(bids)
     }
 
-    /// The item leaves; the bit of the bidder that held it, if any.
-    fn remove(&mut self, item: usize) -> u128 {
-        self.withdrawn[item] = true;
-        self.price[item] = 0;
-        let holder = std::mem::replace(&mut self.holder[item], FREE);
+    /// The place leaves; the bit of the bidder that held it, if any.
+    fn remove(&mut self, place: usize) -> u128 {
+        self.withdrawn[place] = true;
+        self.price[place] = 0;
+        let holder = std::mem::replace(&mut self.holder[place], FREE);
         if holder == FREE {
             return 0;
         }
@@ -136,8 +195,8 @@ impl Auction {
         while let Some(choice) = self.best_open(bidder) {
             bids += 1;
             self.gain[bidder] = choice.utility;
-            self.price[choice.item] += self.p * choice.weight;
-            let displaced = std::mem::replace(&mut self.holder[choice.item], bidder as u8);
+            self.price[choice.place] += self.p * choice.weight;
+            let displaced = std::mem::replace(&mut self.holder[choice.place], bidder as u8);
             if displaced == FREE {
                 break;
             }
@@ -147,15 +206,15 @@ impl Auction {
         bids
     }
 
-    /// Greatest utility, then largest weight, then lowest item: edges stand in
-    /// rising order of items, so the first of equal ones stays.
+    /// Greatest utility, then largest weight, then lowest place: edges stand in
+    /// rising order of places, so the first of equal ones stays.
     fn best_open(&self, bidder: usize) -> Option<Choice> {
         let mut best: Option<Choice> = None;
         let (mut greatest, mut heaviest) = (0, 0);
         for edge in self.edges_of(bidder) {
-            let (item, weight) = (edge.item as usize, edge.weight as u64);
-            let price = self.price[item];
-            if self.withdrawn[item] || price >= (self.q - self.p) * weight {
+            let (place, weight) = (edge.place as usize, edge.weight as u64);
+            let price = self.price[place];
+            if self.withdrawn[place] || price >= (self.q - self.p) * weight {
                 continue;
             }
             let utility = self.q * weight - price;
@@ -163,7 +222,7 @@ impl Auction {
                 continue;
             }
             (greatest, heaviest) = (utility, weight);
-            best = Some(Choice { item, weight, utility });
+            best = Some(Choice { place, weight, utility });
         }
         best
     }
@@ -176,19 +235,24 @@ impl Auction {
     pub fn matching(&self) -> [u8; BIDDERS] {
         let mut matching = [0; BIDDERS];
         for item in 0..self.items {
-            if self.holder[item] != FREE {
-                matching[self.holder[item] as usize] = item as u8 + 1;
+            for place in self.places_of(item).filter(|&place| self.holder[place] != FREE) {
+                matching[self.holder[place] as usize] = item as u8 + 1;
             }
         }
         matching
     }
 
+    /// The least price of an item's places.
+    pub fn least_price(&self, item: usize) -> u64 {
+        *self.price[self.places_of(item)].iter().min().expect("an item has a place")
+    }
+
     /// The weight of what is held.
     pub fn weight(&self) -> u64 {
-        let matching = self.matching();
         let held = |bidder: usize| {
             let mut edges = self.edges_of(bidder).iter();
-            edges.find(|e| e.item + 1 == matching[bidder]).map_or(0, |e| e.weight as u64)
+            let held = edges.find(|e| self.holder[e.place as usize] == bidder as u8);
+            held.map_or(0, |e| e.weight as u64)
         };
         (0..self.arrived).map(held).sum()
     }

@@ -1,16 +1,17 @@
 //! The greatest weight of a matching on the live edges, by the Hungarian
 //! method: bidders come one by one, each with one search that keeps its tree.
+//! Every place counts as an item here.
 
-use super::auction::{Auction, BIDDERS, ITEMS};
+use super::auction::{Auction, BIDDERS, PLACES};
 
 const NONE: u8 = u8::MAX;
 
 struct Solver {
     items: usize,
-    weights: [[i32; ITEMS]; BIDDERS],
-    price: [i32; ITEMS],
+    weights: [[i32; PLACES]; BIDDERS],
+    price: [i32; PLACES],
     gain: [i32; BIDDERS],
-    holder: [u8; ITEMS],
+    holder: [u8; PLACES],
     held: [u8; BIDDERS],
 }
 
@@ -18,11 +19,11 @@ struct Solver {
 /// are stored `fall` too high, and prices and gains change once, at the end.
 struct Tree {
     fall: i32,
-    excess: [i32; ITEMS],
-    parent: [u8; ITEMS],
-    reached: [(u8, i32); ITEMS + 1],
+    excess: [i32; PLACES],
+    parent: [u8; PLACES],
+    reached: [(u8, i32); PLACES + 1],
     bidders: usize,
-    seen: [(u8, i32); ITEMS],
+    seen: [(u8, i32); PLACES],
     items: usize,
     unseen: u64,
     least: i32,
@@ -30,11 +31,11 @@ struct Tree {
 }
 
 pub fn greatest_weight(auction: &Auction) -> u64 {
-    let mut solver = Solver::new(auction.items);
+    let mut solver = Solver::new(auction.places());
     for bidder in 0..auction.arrived {
         for edge in auction.edges_of(bidder) {
-            if !auction.withdrawn[edge.item as usize] {
-                solver.weights[bidder][edge.item as usize] = edge.weight as i32;
+            if !auction.withdrawn[edge.place as usize] {
+                solver.weights[bidder][edge.place as usize] = edge.weight as i32;
             }
         }
         solver.add(bidder);
@@ -43,7 +44,7 @@ pub fn greatest_weight(auction: &Auction) -> u64 {
 }
 
 /// The same of the live weights themselves, a row per bidder, 0 for no edge.
-pub fn greatest_of(items: usize, rows: &[[u32; ITEMS]]) -> u64 {
+pub fn greatest_of(items: usize, rows: &[[u32; PLACES]]) -> u64 {
     let mut solver = Solver::new(items);
     for (bidder, row) in rows.iter().enumerate() {
         solver.weights[bidder] = row.map(|weight| weight as i32);
@@ -56,10 +57,10 @@ impl Solver {
     fn new(items: usize) -> Solver {
         Solver {
             items,
-            weights: [[0; ITEMS]; BIDDERS],
-            price: [0; ITEMS],
+            weights: [[0; PLACES]; BIDDERS],
+            price: [0; PLACES],
             gain: [0; BIDDERS],
-            holder: [NONE; ITEMS],
+            holder: [NONE; PLACES],
             held: [NONE; BIDDERS],
         }
     }
@@ -75,13 +76,13 @@ impl Solver {
         self.gain[bidder] = (0..self.items).map(surplus).max().unwrap_or(0).max(0);
         let mut tree = Tree {
             fall: 0,
-            excess: [i32::MAX; ITEMS],
-            parent: [NONE; ITEMS],
-            reached: [(0, 0); ITEMS + 1],
+            excess: [i32::MAX; PLACES],
+            parent: [NONE; PLACES],
+            reached: [(0, 0); PLACES + 1],
             bidders: 0,
-            seen: [(0, 0); ITEMS],
+            seen: [(0, 0); PLACES],
             items: 0,
-            unseen: u64::MAX >> (ITEMS - self.items),
+            unseen: u64::MAX >> (PLACES - self.items),
             least: i32::MAX,
             poorest: bidder,
         };

@@ -1,6 +1,6 @@
 //! The text, read in one pass, and the printing.
 
-use super::auction::Auction;
+use super::auction::{Auction, PLACES};
 use super::exact::greatest_weight;
 use std::io::Write;
 
@@ -80,12 +80,24 @@ fn replay(reader: &mut Reader) -> Result<(Box<Auction>, u64), Number> {
         _ => return Err(14),
     };
     let mut bids = 0;
+    // The item of the `P` line before, as long as one may stand here.
+    let mut named = Some(0);
     while reader.at < reader.text.len() {
-        bids += match (reader.record(&mut numbers), numbers.as_slice()) {
-            (Some(b'A'), pairs) if pairs.len() % 2 == 0 => auction.arrive(pairs)?,
-            (Some(b'W'), items) if !items.is_empty() => auction.withdraw(items)?,
+        match (reader.record(&mut numbers), numbers.as_slice(), named) {
+            (Some(b'P'), &[item, count], Some(before)) => {
+                auction.set_places(item, count, before)?;
+                if auction.places() > PLACES {
+                    reader.line = 1;
+                    return Err(16);
+                }
+                named = Some(item);
+                continue;
+            }
+            (Some(b'A'), pairs, _) if pairs.len() % 2 == 0 => bids += auction.arrive(pairs)?,
+            (Some(b'W'), items, _) if !items.is_empty() => bids += auction.withdraw(items)?,
             _ => return Err(14),
-        };
+        }
+        named = None;
     }
     Ok((auction, bids))
 }
@@ -96,8 +108,8 @@ fn report(auction: &Auction, bids: u64, out: &mut Vec<u8>) -> std::io::Result<()
     for (bidder, (item, gain)) in rows.enumerate() {
         writeln!(out, "P\t{}\t{item}\t{gain}", bidder + 1)?;
     }
-    for item in (0..auction.items).filter(|&i| !auction.withdrawn[i]) {
-        writeln!(out, "Y\t{}\t{}", item + 1, auction.price[item])?;
+    for item in (0..auction.items).filter(|&i| !auction.is_gone(i)) {
+        writeln!(out, "Y\t{}\t{}", item + 1, auction.least_price(item))?;
     }
     writeln!(out, "T\t{}\t{}\t{bids}", auction.weight(), auction.sum())?;
     writeln!(out, "E\t{}", greatest_weight(auction))

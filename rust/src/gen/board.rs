@@ -1,25 +1,48 @@
 //! Records: sound ones that no history need reach, spoilt ones, random ones.
 
+use super::places::counts;
 use crate::model::auction::*;
 use crate::model::sound::Record;
 use crate::rng::Rng;
 
+mod spoil;
+
+pub use spoil::SPOILS;
+
 /// A sound record: a random matching, each pair's (q + p) times its weight
 /// split between price and gain, and edges that are not covered lowered.
-/// Prices go above 1,000,000,000 where weights and q are great.
+/// Prices go above 1,000,000,000 where weights and q are great. In one of two
+/// some items have several places.
 pub fn sound(rng: &mut Rng) -> Record {
-    let mut r = Record::zero();
     let large = rng.chance(1, 3);
-    r.items = rng.range(1, if large { 64 } else { 6 });
-    r.arrived = rng.range(0, if large { 128 } else { 7 });
+    let items = rng.range(1, if large { 64 } else { 6 });
+    let several = rng.chance(1, 2);
+    let counts = if several { counts(rng, items, 6) } else { ones(items) };
+    let arrived = rng.range(0, if large { 128 } else { 7 });
+    sound_of(rng, &counts, arrived)
+}
+
+/// The same where some item has several places.
+pub fn sound_places(rng: &mut Rng) -> Record {
+    let records = std::iter::repeat_with(|| sound(rng));
+    records.into_iter().find(|r| r.places > r.items).expect("there are such records")
+}
+
+/// A record of so many bidders and of items with so many places, sound where these counts
+/// are within limits.
+pub fn sound_of(rng: &mut Rng, counts: &[u64], arrived: u64) -> Record {
+    let mut r = Record::of_counts(counts);
+    r.arrived = arrived;
     let q = rng.pick(&[2, 10, 100, 999, 1_000, 1_000]);
     let middle = rng.range(1, q - 1);
     r.slack = Slack { p: rng.pick(&[1, middle, q - 1]), q };
     fill_edges(rng, &mut r);
-    for item in 0..r.items as usize {
-        r.withdrawn[item] = rng.chance(1, 8) as u8;
+    for item in 0..counts.len() {
+        let places = r.places_of(item);
+        r.withdrawn[places].fill(rng.chance(1, 8) as u8);
     }
     match_some(rng, &mut r);
+    split(rng, &mut r);
     repair(&mut r);
     r
 }
@@ -27,223 +50,104 @@ pub fn sound(rng: &mut Rng) -> Record {
 fn fill_edges(rng: &mut Rng, r: &mut Record) {
     let most = rng.pick(&[3, 100, 9_999, MAX_WEIGHT, MAX_WEIGHT]);
     let density = rng.range(1, 4);
-    for row in &mut r.rows[..r.arrived as usize] {
-        for weight in &mut row[..r.items as usize] {
+    for bidder in 0..r.arrived as usize {
+        for item in 0..r.items as usize {
             if rng.chance(density, 4) {
-                *weight = rng.range(most.saturating_sub(50_000).max(1), most) as u32;
+                let weight = rng.range(most.saturating_sub(50_000).max(1), most);
+                set_edge(r, bidder, item, weight);
             }
         }
     }
 }
 
+/// The edge at every place of an item.
+fn set_edge(r: &mut Record, bidder: usize, item: usize, weight: u64) {
+    let places = r.places_of(item);
+    r.rows[bidder][places].fill(weight as u32);
+}
+
+fn live_items(r: &Record) -> Vec<usize> {
+    (0..r.items as usize).filter(|&i| r.counts[i] > 0 && !r.is_gone(i)).collect()
+}
+
+/// Bidders at live places, most of them held.
 fn match_some(rng: &mut Rng, r: &mut Record) {
     let mut bidders: Vec<usize> = (0..r.arrived as usize).collect();
     rng.shuffle(&mut bidders);
-    for item in (0..r.items as usize).filter(|&i| r.withdrawn[i] == 0) {
-        let fit = bidders.iter().position(|&b| r.rows[b][item] != 0);
-        let Some(at) = fit.filter(|_| rng.chance(4, 5)) else {
-            continue;
-        };
-        let bidder = bidders.swap_remove(at);
-        let whole = (r.slack.q + r.slack.p) * r.rows[bidder][item] as u64;
-        r.holder[item] = bidder as u8 + 1;
-        r.price[item] = match rng.below(4) {
-            0 => whole,
-            1 => 0,
-            _ => rng.range(0, whole),
-        };
-        r.gain[bidder] = whole - r.price[item];
-    }
-}
-
-/// Lowers each live edge that is not covered to what price and gain allow.
-fn repair(r: &mut Record) {
-    let factor = r.slack.q - r.slack.p;
-    for bidder in 0..r.arrived as usize {
-        for item in (0..r.items as usize).filter(|&i| r.withdrawn[i] == 0) {
-            let allowed = (r.gain[bidder] + r.price[item]) / factor;
-            let weight = &mut r.rows[bidder][item];
-            *weight = (*weight).min(allowed.min(MAX_WEIGHT) as u32);
+    for place in (0..r.places as usize).filter(|&place| r.withdrawn[place] == 0) {
+        let fit = bidders.iter().position(|&b| r.rows[b][place] != 0);
+        if let Some(at) = fit.filter(|_| rng.chance(4, 5)) {
+            r.holder[place] = bidders.swap_remove(at) as u8 + 1;
         }
     }
 }
 
-/// A way to break one clause of soundness; false where this record offers no
-/// place for it.
-pub type Spoil = fn(&mut Rng, &mut Record) -> bool;
-
-pub const SPOILS: [(&str, Spoil); 28] = [
-    ("no items", |_, r| set(&mut r.items, 0)),
-    ("too many items", |rng, r| set(&mut r.items, rng.pick(&[65, 1 << 32, u64::MAX]))),
-    ("too many bidders", |rng, r| set(&mut r.arrived, rng.pick(&[129, 256, u64::MAX]))),
-    ("p is 0", |_, r| set(&mut r.slack.p, 0)),
-    ("p is q", |_, r| set(&mut r.slack.p, r.slack.q)),
-    ("p above q", |rng, r| set(&mut r.slack.p, rng.pick(&[r.slack.q + 1, u64::MAX]))),
-    ("q above its limit", |rng, r| set(&mut r.slack.q, rng.pick(&[1_001, u64::MAX]))),
-    ("weight above its limit", |rng, r| weight_above(rng, r)),
-    ("unused price", |rng, r| past_items(rng, r, |r, i| r.price[i] = 1)),
-    ("unused holder", |rng, r| past_items(rng, r, |r, i| r.holder[i] = 1)),
-    ("unused withdrawn", |rng, r| past_items(rng, r, |r, i| r.withdrawn[i] = 1)),
-    ("unused flag above 1", |rng, r| past_items(rng, r, |r, i| r.withdrawn[i] = 2)),
-    ("flag above 1", |rng, r| flag_above(rng, r)),
-    ("unused weight", |rng, r| past_items(rng, r, |r, i| r.rows[0][i] = 1)),
-    ("unused gain", |rng, r| past_bidders(rng, r, |r, b| r.gain[b] = 1)),
-    ("unused row", |rng, r| past_bidders(rng, r, |r, b| r.rows[b][0] = 1)),
-    ("holder not arrived", |rng, r| stranger(rng, r)),
-    ("bidder at two items", |rng, r| two_items(rng, r)),
-    ("holder without edge", |rng, r| at_pair(rng, r, |r, b, i| r.rows[b][i] = 0)),
-    ("withdrawn item held", |rng, r| at_pair(rng, r, |r, _, i| r.withdrawn[i] = 1)),
-    ("pair's weight raised", |rng, r| at_pair(rng, r, |r, b, i| r.rows[b][i] += 1)),
-    ("pair's gain raised", |rng, r| at_pair(rng, r, |r, b, _| r.gain[b] += 1)),
-    ("pair's price raised", |rng, r| at_pair(rng, r, |r, _, i| r.price[i] += 1)),
-    ("pair's price far too high", |rng, r| at_pair(rng, r, |r, _, i| r.price[i] += 1 << 63)),
-    ("price of a free item", |rng, r| free_price(rng, r, false)),
-    ("price of a withdrawn item", |rng, r| free_price(rng, r, true)),
-    ("gain of an unplaced bidder", |rng, r| unplaced_gain(rng, r)),
-    ("edge not covered", |rng, r| uncover(rng, r)),
-];
-
-fn set(cell: &mut u64, value: u64) -> bool {
-    *cell = value;
-    true
-}
-
-fn weight_above(rng: &mut Rng, r: &mut Record) -> bool {
-    // A withdrawn item's edge meets no clause but the limit itself.
-    let gone: Vec<usize> = (0..r.items as usize).filter(|&i| r.is_gone(i)).collect();
-    if gone.is_empty() || r.arrived == 0 {
-        return false;
-    }
-    let bidder = rng.below(r.arrived) as usize;
-    r.rows[bidder][rng.pick(&gone)] = rng.pick(&[1_000_001, u32::MAX]);
-    true
-}
-
-fn past_items(rng: &mut Rng, r: &mut Record, break_at: fn(&mut Record, usize)) -> bool {
-    let room = r.items < MAX_ITEMS as u64;
-    if room {
-        break_at(r, rng.range(r.items, MAX_ITEMS as u64 - 1) as usize);
-    }
-    room
-}
-
-fn past_bidders(rng: &mut Rng, r: &mut Record, break_at: fn(&mut Record, usize)) -> bool {
-    let room = r.arrived < MAX_BIDDERS as u64;
-    if room {
-        break_at(r, rng.range(r.arrived, MAX_BIDDERS as u64 - 1) as usize);
-    }
-    room
-}
-
-/// The held edges as (bidder, item), both from 0.
-fn pairs(r: &Record) -> Vec<(usize, usize)> {
-    let held = r.holder.iter().enumerate().filter(|(_, &h)| h != 0);
-    held.map(|(item, &h)| (h as usize - 1, item)).collect()
-}
-
-fn free_items(r: &Record) -> Vec<usize> {
-    (0..r.items as usize).filter(|&i| r.holder[i] == 0).collect()
-}
-
-fn at_pair(rng: &mut Rng, r: &mut Record, break_at: fn(&mut Record, usize, usize)) -> bool {
-    let held = pairs(r);
-    if held.is_empty() {
-        return false;
-    }
-    let (bidder, item) = rng.pick(&held);
-    break_at(r, bidder, item);
-    true
-}
-
-/// At an item that nobody holds, where either flag would be sound.
-fn flag_above(rng: &mut Rng, r: &mut Record) -> bool {
-    let free = free_items(r);
-    if free.is_empty() {
-        return false;
-    }
-    r.withdrawn[rng.pick(&free)] = rng.pick(&[2, 3, 128, 254, 255]);
-    true
-}
-
-fn stranger(rng: &mut Rng, r: &mut Record) -> bool {
-    let free = free_items(r);
-    if free.is_empty() {
-        return false;
-    }
-    r.holder[rng.pick(&free)] = rng.range(r.arrived + 1, 255) as u8;
-    true
-}
-
-/// A free item, by a new edge of the same weight, and the price that fits.
-fn two_items(rng: &mut Rng, r: &mut Record) -> bool {
-    let held = pairs(r);
-    let free: Vec<usize> = free_items(r).into_iter().filter(|&i| !r.is_gone(i)).collect();
-    if held.is_empty() || free.is_empty() {
-        return false;
-    }
-    let (bidder, item) = rng.pick(&held);
-    let second = rng.pick(&free);
-    r.rows[bidder][second] = r.rows[bidder][item];
-    r.price[second] = r.price[item];
-    r.holder[second] = r.holder[item];
-    true
-}
-
-fn free_price(rng: &mut Rng, r: &mut Record, withdrawn: bool) -> bool {
-    let mut free = free_items(r);
-    free.retain(|&item| r.is_gone(item) == withdrawn);
-    if free.is_empty() {
-        return false;
-    }
-    r.price[rng.pick(&free)] = rng.pick(&[1, u64::MAX]);
-    true
-}
-
-fn unplaced_gain(rng: &mut Rng, r: &mut Record) -> bool {
-    let placed: Vec<usize> = pairs(r).into_iter().map(|(b, _)| b).collect();
-    let unplaced: Vec<usize> = (0..r.arrived as usize).filter(|b| !placed.contains(b)).collect();
-    if unplaced.is_empty() {
-        return false;
-    }
-    r.gain[rng.pick(&unplaced)] = rng.pick(&[1, u64::MAX]);
-    true
-}
-
-/// One more than is covered, on a live edge that nobody holds.
-fn uncover(rng: &mut Rng, r: &mut Record) -> bool {
-    let factor = r.slack.q - r.slack.p;
-    let least = |r: &Record, b: usize, i: usize| (r.gain[b] + r.price[i]) / factor + 1;
-    let held = pairs(r);
-    let mut open = Vec::new();
-    for bidder in 0..r.arrived as usize {
-        for item in (0..r.items as usize).filter(|&i| !r.is_gone(i)) {
-            if least(r, bidder, item) <= MAX_WEIGHT && !held.contains(&(bidder, item)) {
-                open.push((bidder, item));
+/// Each pair's (q + p) times its weight as a price and a gain. The price is at most 2p
+/// times the weight above the least of the item, so that the pair covers its edge at the
+/// item's other places too.
+fn split(rng: &mut Rng, r: &mut Record) {
+    let Slack { p, q } = r.slack;
+    for item in live_items(r) {
+        let places = r.places_of(item);
+        let holders: Vec<u8> = r.holder[places.clone()].to_vec();
+        let weight = |&holder: &u8| match holder {
+            0 => 0,
+            holder => r.rows[holder as usize - 1][places.start] as u64,
+        };
+        let weights: Vec<u64> = holders.iter().map(weight).collect();
+        let most = (q + p) * weights.iter().min().expect("a place");
+        let least = any_of(rng, most);
+        for ((place, holder), weight) in places.zip(holders).zip(weights) {
+            if holder != 0 {
+                let whole = (q + p) * weight;
+                let above = any_of(rng, (2 * p * weight).min(whole - least));
+                r.price[place] = least + above;
+                r.gain[holder as usize - 1] = whole - r.price[place];
             }
         }
     }
-    if open.is_empty() {
-        return false;
+}
+
+/// A number up to this, often 0 or this itself.
+fn any_of(rng: &mut Rng, most: u64) -> u64 {
+    match rng.below(4) {
+        0 => most,
+        1 => 0,
+        _ => rng.range(0, most),
     }
-    let (bidder, item) = rng.pick(&open);
-    r.rows[bidder][item] = least(r, bidder, item) as u32;
-    true
+}
+
+/// Lowers each live edge that is not covered to what the item's least price and the gain
+/// allow.
+fn repair(r: &mut Record) {
+    let factor = r.slack.q - r.slack.p;
+    for bidder in 0..r.arrived as usize {
+        for item in live_items(r) {
+            let places = r.places_of(item);
+            let price = *r.price[places.clone()].iter().min().expect("a place");
+            let allowed = (r.gain[bidder] + price) / factor;
+            let weight = r.weight_at(bidder, item);
+            set_edge(r, bidder, item, weight.min(allowed));
+        }
+    }
 }
 
 /// Another number in one cell, often a near one; the board may stay sound.
 pub fn nudge(rng: &mut Rng, r: &mut Record) {
-    let (items, bidders) = (r.items.clamp(1, 64) as usize, r.arrived.clamp(1, 128) as usize);
-    let (item, bidder) = (rng.index(items), rng.index(bidders));
-    match rng.below(10) {
+    let (places, bidders) = (r.places.clamp(1, 64) as usize, r.arrived.clamp(1, 128) as usize);
+    let (place, bidder) = (rng.index(places), rng.index(bidders));
+    match rng.below(11) {
         0 => r.items = near(rng, r.items),
         1 => r.arrived = near(rng, r.arrived),
         2 => r.slack.p = near(rng, r.slack.p),
         3 => r.slack.q = near(rng, r.slack.q),
-        4 => r.price[item] = near(rng, r.price[item]),
+        4 => r.price[place] = near(rng, r.price[place]),
         5 => r.gain[bidder] = near(rng, r.gain[bidder]),
-        6 => r.holder[item] = near(rng, r.holder[item] as u64) as u8,
-        7 => r.withdrawn[item] = near(rng, r.withdrawn[item] as u64) as u8,
-        _ => r.rows[bidder][item] = near(rng, r.rows[bidder][item] as u64) as u32,
+        6 => r.holder[place] = near(rng, r.holder[place] as u64) as u8,
+        7 => r.withdrawn[place] = near(rng, r.withdrawn[place] as u64) as u8,
+        8 if rng.chance(1, 2) => r.places = near(rng, r.places),
+        8 => r.counts[place] = near(rng, r.counts[place] as u64) as u8,
+        _ => r.rows[bidder][place] = near(rng, r.rows[bidder][place] as u64) as u32,
     }
 }
 
@@ -260,21 +164,23 @@ fn near(rng: &mut Rng, n: u64) -> u64 {
 
 /// Every unused cell of a board, one after the other.
 pub fn unused_cells(r: &Record) -> Vec<Unused> {
-    let (items, arrived) = (r.items as usize, r.arrived as usize);
+    let (places, arrived) = (r.places as usize, r.arrived as usize);
     let mut cells = Vec::new();
-    cells.extend((items..MAX_ITEMS).map(Unused::Price));
-    cells.extend((items..MAX_ITEMS).map(Unused::Holder));
-    cells.extend((items..MAX_ITEMS).map(Unused::Withdrawn));
+    cells.extend((r.items as usize..MAX_ITEMS).map(Unused::Count));
+    cells.extend((places..MAX_PLACES).map(Unused::Price));
+    cells.extend((places..MAX_PLACES).map(Unused::Holder));
+    cells.extend((places..MAX_PLACES).map(Unused::Withdrawn));
     cells.extend((arrived..MAX_BIDDERS).map(Unused::Gain));
     for bidder in 0..MAX_BIDDERS {
-        let first = if bidder < arrived { items } else { 0 };
-        cells.extend((first..MAX_ITEMS).map(|item| Unused::Weight(bidder, item)));
+        let first = if bidder < arrived { places } else { 0 };
+        cells.extend((first..MAX_PLACES).map(|place| Unused::Weight(bidder, place)));
     }
     cells
 }
 
 #[derive(Clone, Copy, Debug)]
 pub enum Unused {
+    Count(usize),
     Price(usize),
     Holder(usize),
     Withdrawn(usize),
@@ -286,6 +192,7 @@ impl Unused {
     /// A number that is not 0 in this cell.
     pub fn fill(self, r: &mut Record, number: u64) {
         match self {
+            Unused::Count(i) => r.counts[i] = number.min(255) as u8,
             Unused::Price(i) => r.price[i] = number,
             Unused::Holder(i) => r.holder[i] = number as u8,
             Unused::Withdrawn(i) => r.withdrawn[i] = number.min(255) as u8,
@@ -295,10 +202,15 @@ impl Unused {
     }
 }
 
-/// Any numbers in every cell; some of them small, so that tests go deep.
+/// Any numbers in every cell; some of them small, so that tests go deep. Counts often add
+/// up to the places.
 pub fn random(rng: &mut Rng) -> Record {
-    let mut r = Record::zero();
-    r.items = number(rng, 64);
+    let items = rng.range(1, 64);
+    let mut r = match rng.below(3) {
+        0 => Record::of_counts(&ones(items)),
+        1 => Record::of_counts(&counts(rng, items, 4)),
+        _ => any_counts(rng),
+    };
     r.slack = Slack { p: number(rng, 5), q: number(rng, 1_000) };
     r.arrived = number(rng, 128);
     let (calm, most) = (rng.chance(1, 2), rng.pick(&[1, 4, 1_000_000]));
@@ -308,6 +220,14 @@ pub fn random(rng: &mut Rng) -> Record {
     r.holder.iter_mut().for_each(|h| *h = cell(130) as u8);
     r.withdrawn.iter_mut().for_each(|gone| *gone = cell(1) as u8);
     r.rows.iter_mut().flatten().for_each(|w| *w = cell(most) as u32);
+    r
+}
+
+fn any_counts(rng: &mut Rng) -> Record {
+    let mut r = Record::zero();
+    r.items = number(rng, 64);
+    r.places = number(rng, 64);
+    r.counts.iter_mut().for_each(|count| *count = number(rng, 8) as u8);
     r
 }
 

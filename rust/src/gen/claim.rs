@@ -5,7 +5,7 @@ use crate::model::check::{Claim, MAX_PRICE};
 use crate::model::hungarian;
 use crate::rng::Rng;
 
-/// The auction's matching and lists at its slack.
+/// The auction's matching and lists, as they are read out, at its slack.
 pub fn own(auction: &Auction) -> Claim {
     Claim {
         matching: auction.matching(),
@@ -17,7 +17,7 @@ pub fn own(auction: &Auction) -> Claim {
 
 /// A matching of greatest weight and a cover of equal sum, at 0/1.
 pub fn exact(auction: &Auction) -> Claim {
-    let exact = hungarian::solve(&auction.live_weights(), auction.items.len());
+    let exact = hungarian::solve(&auction.live_weights(), &auction.counts());
     Claim {
         matching: exact.matching,
         price: exact.price,
@@ -95,15 +95,15 @@ fn price_up_to(rng: &mut Rng, item: &Item, limit: u64) -> u64 {
 }
 
 fn matching(rng: &mut Rng, auction: &Auction) -> Vec<u64> {
-    let mut taken = vec![false; auction.items.len()];
+    let mut left = auction.counts();
     let mut cell = |bidder: &Bidder| {
         let live = bidder.edges.iter().filter(|&&e| auction.is_live(e));
-        let free: Vec<u64> = live.map(|e| e.item).filter(|&i| !taken[i as usize - 1]).collect();
+        let free: Vec<u64> = live.map(|e| e.item).filter(|&i| left[i as usize - 1] > 0).collect();
         if free.is_empty() || rng.chance(1, 4) {
             return 0;
         }
         let item = rng.pick(&free);
-        taken[item as usize - 1] = true;
+        left[item as usize - 1] -= 1;
         item
     };
     auction.bidders.iter().map(&mut cell).collect()

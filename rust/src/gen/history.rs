@@ -1,6 +1,7 @@
 //! Random histories: an opening and the calls after it.
 
 use super::items::rising;
+use super::places::{counts, full};
 use crate::model::auction::*;
 use crate::model::refusal::Refusal;
 use crate::rng::Rng;
@@ -15,15 +16,30 @@ pub enum Call {
 
 #[derive(Clone, Debug)]
 pub struct History {
-    pub items: u64,
+    /// How many places each item has.
+    pub counts: Vec<u64>,
     pub slack: Slack,
     pub calls: Vec<Call>,
 }
 
 impl History {
+    /// One of items with one place each.
+    pub fn of_ones(items: u64, slack: Slack, calls: Vec<Call>) -> History {
+        History { counts: ones(items), slack, calls }
+    }
+
+    pub fn items(&self) -> u64 {
+        self.counts.len() as u64
+    }
+
+    /// The auction before the calls.
+    pub fn opened(&self) -> Auction {
+        Auction::open_places(self.items(), self.slack, &self.counts).expect("it opens")
+    }
+
     /// The auction that the calls come to. All are served.
     pub fn auction(&self) -> Auction {
-        let mut auction = Auction::open(self.items, self.slack).expect("it opens");
+        let mut auction = self.opened();
         for call in &self.calls {
             call.carry_out(&mut auction).expect("a good call");
         }
@@ -41,7 +57,8 @@ impl Call {
     }
 }
 
-/// In every kind but `Refused` each call is served.
+/// In every kind but `Refused` and `PlacesRefused` each call is served. From `Places` on
+/// items have several places (document 02, R-6).
 #[derive(Clone, Copy, Debug, PartialEq, Eq)]
 pub enum Kind {
     Small,
@@ -53,10 +70,16 @@ pub enum Kind {
     Refused,
     EqualUtility,
     Lists,
+    Places,
+    PlacesTies,
+    PlacesLimits,
+    PlacesRefused,
+    PlacesEqualUtility,
+    PlacesLists,
 }
 
 impl Kind {
-    pub const ALL: [Kind; 9] = [
+    pub const ALL: [Kind; 15] = [
         Kind::Small,
         Kind::Sparse,
         Kind::Dense,
@@ -66,12 +89,37 @@ impl Kind {
         Kind::Refused,
         Kind::EqualUtility,
         Kind::Lists,
+        Kind::Places,
+        Kind::PlacesTies,
+        Kind::PlacesLimits,
+        Kind::PlacesRefused,
+        Kind::PlacesEqualUtility,
+        Kind::PlacesLists,
     ];
+
+    /// Those with several places, all of whose calls are served.
+    pub const OF_PLACES: [Kind; 5] = [
+        Kind::Places,
+        Kind::PlacesTies,
+        Kind::PlacesLimits,
+        Kind::PlacesEqualUtility,
+        Kind::PlacesLists,
+    ];
+
+    /// Whether every call is served.
+    pub fn is_served(self) -> bool {
+        !matches!(self, Kind::Refused | Kind::PlacesRefused)
+    }
+
+    /// Whether it takes many bids or long texts, so that few are tried.
+    pub fn is_large(self) -> bool {
+        matches!(self, Kind::Limits | Kind::PlacesLimits)
+    }
 }
 
 /// What a kind fixes about its histories.
 struct Shape {
-    items: u64,
+    counts: Vec<u64>,
     slack: Slack,
     calls: u64,
     /// Edges that a bidder has, of the live items.
@@ -101,14 +149,20 @@ pub fn history(rng: &mut Rng, kind: Kind) -> History {
         Kind::Limits => shaped(rng, limits),
         Kind::Withdrawals => shaped(rng, withdrawals),
         Kind::Refused => shaped(rng, refused),
-        Kind::EqualUtility => equal_utility(rng),
+        Kind::EqualUtility => equal_utility(rng, |rng| ones(rng.range(2, 7))),
         Kind::Lists => shaped(rng, lists),
+        Kind::Places => shaped(rng, places),
+        Kind::PlacesTies => shaped(rng, places_ties),
+        Kind::PlacesLimits => shaped(rng, places_limits),
+        Kind::PlacesRefused => shaped(rng, places_refused),
+        Kind::PlacesEqualUtility => equal_utility(rng, |rng| some_counts(rng, 2, 5, 3)),
+        Kind::PlacesLists => shaped(rng, places_lists),
     }
 }
 
 fn shaped(rng: &mut Rng, shape: fn(&mut Rng) -> Shape) -> History {
     let shape = shape(rng);
-    let mut withdrawn = vec![false; shape.items as usize];
+    let mut withdrawn = vec![false; shape.counts.len()];
     let mut arrived = 0;
     let mut calls = Vec::new();
     for _ in 0..shape.calls {
@@ -123,12 +177,18 @@ fn shaped(rng: &mut Rng, shape: fn(&mut Rng) -> Shape) -> History {
             calls.push(Call::Arrive(edges(rng, &shape, &withdrawn)));
         }
     }
-    History { items: shape.items, slack: shape.slack, calls }
+    History { counts: shape.counts, slack: shape.slack, calls }
+}
+
+/// Some items of up to so many places each.
+fn some_counts(rng: &mut Rng, low: u64, high: u64, most: u64) -> Vec<u64> {
+    let items = rng.range(low, high);
+    counts(rng, items, most)
 }
 
 fn small(rng: &mut Rng) -> Shape {
     Shape {
-        items: rng.range(1, 4),
+        counts: ones(rng.range(1, 4)),
         slack: slack_to(rng, 10),
         calls: rng.range(0, 9),
         most_edges: 4,
@@ -141,7 +201,7 @@ fn small(rng: &mut Rng) -> Shape {
 
 fn sparse(rng: &mut Rng) -> Shape {
     Shape {
-        items: rng.range(5, 64),
+        counts: ones(rng.range(5, 64)),
         slack: slack_to(rng, 100),
         calls: rng.range(1, 100),
         weights: Weights::UpTo(1_000),
@@ -153,7 +213,7 @@ fn sparse(rng: &mut Rng) -> Shape {
 
 fn dense(rng: &mut Rng) -> Shape {
     Shape {
-        items: rng.range(2, 20),
+        counts: ones(rng.range(2, 20)),
         slack: slack_to(rng, 50),
         calls: rng.range(1, 40),
         most_edges: 64,
@@ -166,7 +226,7 @@ fn dense(rng: &mut Rng) -> Shape {
 
 fn ties(rng: &mut Rng) -> Shape {
     Shape {
-        items: rng.range(2, 10),
+        counts: ones(rng.range(2, 10)),
         slack: Slack { p: 1, q: rng.pick(&[2, 3, 5, 10]) },
         calls: rng.range(1, 25),
         most_edges: 10,
@@ -179,7 +239,7 @@ fn ties(rng: &mut Rng) -> Shape {
 
 fn withdrawals(rng: &mut Rng) -> Shape {
     Shape {
-        items: rng.range(8, 40),
+        counts: ones(rng.range(8, 40)),
         slack: slack_to(rng, 20),
         calls: rng.range(10, 80),
         most_edges: 12,
@@ -194,7 +254,7 @@ fn withdrawals(rng: &mut Rng) -> Shape {
 /// and these displace others.
 fn lists(rng: &mut Rng) -> Shape {
     Shape {
-        items: rng.range(4, 16),
+        counts: ones(rng.range(4, 16)),
         slack: Slack { p: 1, q: rng.pick(&[3, 10, 30]) },
         calls: rng.range(12, 50),
         most_edges: 9,
@@ -207,7 +267,7 @@ fn lists(rng: &mut Rng) -> Shape {
 
 fn refused(rng: &mut Rng) -> Shape {
     Shape {
-        items: rng.pick(&[1, 3, 8, 64]),
+        counts: ones(rng.pick(&[1, 3, 8, 64])),
         calls: rng.pick(&[5, 20, 60, 260]),
         weights: Weights::UpTo(200),
         withdrawals: 12,
@@ -219,7 +279,7 @@ fn refused(rng: &mut Rng) -> Shape {
 fn limits(rng: &mut Rng) -> Shape {
     let (p, q) = rng.pick(&[(1, 1_000), (999, 1_000), (1, 2), (500, 999), (7, 1_000)]);
     Shape {
-        items: rng.range(63, 64),
+        counts: ones(rng.range(63, 64)),
         slack: Slack { p, q },
         calls: rng.range(120, 135),
         most_edges: if p == 1 && q > 2 { 3 } else { rng.pick(&[2, 16, 64]) },
@@ -227,6 +287,56 @@ fn limits(rng: &mut Rng) -> Shape {
         withdrawals: rng.pick(&[0, 3]),
         refused: 0,
         most_items: rng.pick(&[1, 3, 64]),
+    }
+}
+
+/// Up to 40 places, fewer than bidders more often than not.
+fn places(rng: &mut Rng) -> Shape {
+    Shape {
+        counts: some_counts(rng, 1, 8, 5),
+        slack: slack_to(rng, 30),
+        calls: rng.range(1, 50),
+        most_edges: 6,
+        weights: Weights::UpTo(60),
+        withdrawals: 8,
+        refused: 0,
+        most_items: 3,
+    }
+}
+
+/// Few weights, so that places of one item and of several are equal.
+fn places_ties(rng: &mut Rng) -> Shape {
+    Shape {
+        counts: some_counts(rng, 1, 5, 4),
+        slack: Slack { p: 1, q: rng.pick(&[2, 3, 5, 10]) },
+        calls: rng.range(1, 30),
+        most_edges: 64,
+        weights: Weights::Among(&[5, 10, 10, 20]),
+        withdrawals: 8,
+        refused: 0,
+        most_items: 2,
+    }
+}
+
+/// 64 places in all.
+fn places_limits(rng: &mut Rng) -> Shape {
+    let counts = full(rng);
+    Shape { most_items: rng.pick(&[1, 3, counts.len() as u64]), counts, ..limits(rng) }
+}
+
+fn places_refused(rng: &mut Rng) -> Shape {
+    let (low, high) = rng.pick(&[(1, 1), (3, 3), (8, 8), (30, 40)]);
+    Shape { counts: some_counts(rng, low, high, 4), ..refused(rng) }
+}
+
+/// As `lists`: each item that leaves displaces several bidders.
+fn places_lists(rng: &mut Rng) -> Shape {
+    Shape {
+        counts: some_counts(rng, 2, 7, 4),
+        calls: rng.range(12, 60),
+        most_edges: 6,
+        most_items: 3,
+        ..lists(rng)
     }
 }
 
@@ -272,11 +382,10 @@ fn edges(rng: &mut Rng, shape: &Shape, withdrawn: &[bool]) -> Vec<Edge> {
 
 /// A history made beside its auction: each arrival is made for the prices that it
 /// finds, so that many edges of different weights have one utility.
-fn equal_utility(rng: &mut Rng) -> History {
+fn equal_utility(rng: &mut Rng, counts: fn(&mut Rng) -> Vec<u64>) -> History {
     let (p, q) = rng.pick(&[(1, 2), (1, 3), (1, 10), (2, 5)]);
-    let (items, slack) = (rng.range(2, 7), Slack { p, q });
-    let mut auction = Auction::open(items, slack).expect("it opens");
-    let mut calls = Vec::new();
+    let opening = History { counts: counts(rng), slack: Slack { p, q }, calls: Vec::new() };
+    let (mut auction, mut calls) = (opening.opened(), Vec::new());
     for _ in 0..rng.range(3, 20) {
         let withdrawn: Vec<bool> = auction.items.iter().map(|item| item.withdrawn).collect();
         let live = live_items(&withdrawn);
@@ -288,7 +397,7 @@ fn equal_utility(rng: &mut Rng) -> History {
         call.carry_out(&mut auction).expect("a good call");
         calls.push(call);
     }
-    History { items, slack, calls }
+    History { calls, ..opening }
 }
 
 /// Edges at most live items. Where the price allows it, at the item `met` at least,
@@ -309,13 +418,27 @@ fn meeting(rng: &mut Rng, auction: &Auction, live: &[u64], met: u64) -> Vec<Edge
     edges
 }
 
+/// So few bidders and places that every plan can be tried, also after each call.
+pub fn tiny_places(rng: &mut Rng) -> History {
+    shaped(rng, |rng| Shape {
+        counts: some_counts(rng, 1, 3, 3),
+        slack: slack_to(rng, 10),
+        calls: rng.range(1, 7),
+        most_edges: 3,
+        weights: Weights::UpTo(12),
+        withdrawals: 12,
+        refused: 0,
+        most_items: 2,
+    })
+}
+
 /// The deepest alternating path: `items` bidders, the last of whom moves every
 /// other to its second item.
 pub fn staircase(items: u64) -> History {
     let step = |i: u64| vec![Edge { item: i, weight: 100 }, Edge { item: i + 1, weight: 100 }];
     let mut calls: Vec<Call> = (1..items).map(|i| Call::Arrive(step(i))).collect();
     calls.push(Call::Arrive(vec![Edge { item: 1, weight: 100 }]));
-    History { items, slack: Slack { p: 1, q: 2 }, calls }
+    History::of_ones(items, Slack { p: 1, q: 2 }, calls)
 }
 
 /// The same path, its bidders in the other order but for the last.
@@ -328,9 +451,15 @@ pub fn staircase_down(items: u64) -> History {
 /// Every bidder has every edge, all of one weight: the one bidder too many looks
 /// at every item and its holder.
 pub fn level(items: u64, bidders: usize) -> History {
-    let row: Vec<Edge> = (1..=items).map(|item| Edge { item, weight: 777 }).collect();
+    level_of(ones(items), bidders)
+}
+
+/// The same of items with so many places.
+pub fn level_of(counts: Vec<u64>, bidders: usize) -> History {
+    let edge = |item: usize| Edge { item: item as u64 + 1, weight: 777 };
+    let row: Vec<Edge> = (0..counts.len()).map(edge).collect();
     let calls = vec![Call::Arrive(row); bidders];
-    History { items, slack: Slack { p: 1, q: 2 }, calls }
+    History { counts, slack: Slack { p: 1, q: 2 }, calls }
 }
 
 /// Edges at two items in a row whose weights rise along the row, so that prices
@@ -341,5 +470,5 @@ pub fn slope(items: u64) -> History {
         (1..items).map(|i| Call::Arrive(vec![edge(i, i + 1), edge(i + 1, i)])).collect();
     calls.push(Call::Arrive(vec![edge(1, items), edge(items, 1)]));
     calls.push(Call::Arrive(vec![edge(1, 2 * items)]));
-    History { items, slack: Slack { p: 1, q: 2 }, calls }
+    History::of_ones(items, Slack { p: 1, q: 2 }, calls)
 }

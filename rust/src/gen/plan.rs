@@ -2,6 +2,7 @@
 //! all of a small board, and with a flaw; and boards for them.
 
 use super::history::{history, Kind};
+use super::places::counts;
 use super::sheet::{self, Pattern, Sheet};
 use super::{board, claim};
 use crate::model::auction::*;
@@ -12,8 +13,17 @@ use crate::rng::Rng;
 pub type Plan = Vec<u64>;
 
 /// Those of the histories that are not long.
-const KINDS: [Kind; 6] =
-    [Kind::Small, Kind::Sparse, Kind::Dense, Kind::Ties, Kind::Withdrawals, Kind::Lists];
+const KINDS: [Kind; 9] = [
+    Kind::Small,
+    Kind::Sparse,
+    Kind::Dense,
+    Kind::Ties,
+    Kind::Withdrawals,
+    Kind::Lists,
+    Kind::Places,
+    Kind::PlacesTies,
+    Kind::PlacesLists,
+];
 
 /// Weights that make many plans weigh the same.
 const ALIKE: [Pattern; 5] =
@@ -38,24 +48,44 @@ fn alike(rng: &mut Rng) -> Record {
     let (pattern, density) = (rng.pick(&ALIKE), rng.range(5, 8));
     let sheet = sheet::sheet(rng, pattern, bidders, items, density);
     let withdrawals = rng.below(3);
-    sheet::board(rng, sheet, items, withdrawals)
+    let most = rng.pick(&[1, 3]);
+    let counts = counts(rng, items, most);
+    sheet::board_of(rng, sheet, &counts, withdrawals)
 }
 
-/// The items at which a bidder has a live edge and that no cell names.
-fn free(live: &Sheet, plan: &[u64], bidder: usize) -> Vec<u64> {
-    let cells = live[bidder].iter().enumerate().filter(|(_, &weight)| weight != 0);
-    let items = cells.map(|(item, _)| item as u64 + 1);
-    items.filter(|item| !plan.contains(item)).collect()
+/// How often an item is named in these cells.
+pub fn times(plan: &[u64], item: u64) -> u64 {
+    plan.iter().filter(|&&cell| cell == item).count() as u64
 }
 
-/// Bidders in any order take a free item each, or none.
-pub fn any(rng: &mut Rng, live: &Sheet) -> Plan {
-    let mut plan = vec![0; live.len()];
-    let mut bidders: Vec<usize> = (0..live.len()).collect();
+/// What plans are made on: the weights of the live edges, and how many places items have.
+#[derive(Clone, Debug)]
+pub struct Ground {
+    pub live: Sheet,
+    pub counts: Vec<u64>,
+}
+
+impl Ground {
+    pub fn of(r: &Record) -> Ground {
+        Ground { live: sheet::live(r), counts: r.counts() }
+    }
+
+    /// The items at which a bidder has a live edge and of which a place is left.
+    fn free(&self, plan: &[u64], bidder: usize) -> Vec<u64> {
+        let cells = self.live[bidder].iter().enumerate().filter(|(_, &weight)| weight != 0);
+        let items = cells.map(|(item, _)| item as u64 + 1);
+        items.filter(|&item| times(plan, item) < self.counts[item as usize - 1]).collect()
+    }
+}
+
+/// Bidders in any order take an item with a free place each, or none.
+pub fn any(rng: &mut Rng, ground: &Ground) -> Plan {
+    let mut plan = vec![0; ground.live.len()];
+    let mut bidders: Vec<usize> = (0..plan.len()).collect();
     rng.shuffle(&mut bidders);
     let placed = rng.range(1, 4);
     for bidder in bidders {
-        let free = free(live, &plan, bidder);
+        let free = ground.free(&plan, bidder);
         if !free.is_empty() && rng.chance(placed, 4) {
             plan[bidder] = rng.pick(&free);
         }
@@ -64,20 +94,20 @@ pub fn any(rng: &mut Rng, live: &Sheet) -> Plan {
 }
 
 /// The plan with up to four changes.
-pub fn near(rng: &mut Rng, live: &Sheet, plan: &[u64]) -> Plan {
+pub fn near(rng: &mut Rng, ground: &Ground, plan: &[u64]) -> Plan {
     let mut plan = plan.to_vec();
     if !plan.is_empty() {
-        (0..rng.below(5)).for_each(|_| change(rng, live, &mut plan));
+        (0..rng.below(5)).for_each(|_| change(rng, ground, &mut plan));
     }
     plan
 }
 
 /// A bidder, often the first or the last, leaves its item, takes a free one, or
 /// exchanges cells with another.
-fn change(rng: &mut Rng, live: &Sheet, plan: &mut [u64]) {
+fn change(rng: &mut Rng, ground: &Ground, plan: &mut [u64]) {
     let (any, other) = (rng.index(plan.len()), rng.index(plan.len()));
     let bidder = rng.pick(&[0, plan.len() - 1, any, any]);
-    let free = free(live, plan, bidder);
+    let (free, live) = (ground.free(plan, bidder), &ground.live);
     let fits = |bidder: usize, item: u64| item == 0 || live[bidder][item as usize - 1] != 0;
     match rng.below(6) {
         0 => plan[bidder] = 0,
@@ -90,13 +120,14 @@ fn change(rng: &mut Rng, live: &Sheet, plan: &mut [u64]) {
 /// So many plans: the auction's own, one of greatest weight, the empty one, others at
 /// random and others near these, some of them the same.
 pub fn several(rng: &mut Rng, auction: &Auction, count: usize) -> Vec<Plan> {
-    let live = auction.live_weights();
-    let mut plans = vec![auction.matching(), claim::exact(auction).matching, vec![0; live.len()]];
+    let ground = Ground { live: auction.live_weights(), counts: auction.counts() };
+    let empty = vec![0; auction.bidders.len()];
+    let mut plans = vec![auction.matching(), claim::exact(auction).matching, empty];
     while plans.len() < count {
         let other = rng.index(plans.len());
         let plan = match rng.chance(1, 3) {
-            true => any(rng, &live),
-            false => near(rng, &live, &plans[other]),
+            true => any(rng, &ground),
+            false => near(rng, &ground, &plans[other]),
         };
         plans.push(plan);
     }
@@ -104,11 +135,12 @@ pub fn several(rng: &mut Rng, auction: &Auction, count: usize) -> Vec<Plan> {
     plans
 }
 
-/// Every plan: none and every free item for the first bidder, then likewise for the rest.
-pub fn all(live: &Sheet) -> Vec<Plan> {
+/// Every plan: none and every item with a free place for the first bidder, then likewise
+/// for the rest.
+pub fn all(ground: &Ground) -> Vec<Plan> {
     let mut plans = vec![Vec::new()];
-    for bidder in 0..live.len() {
-        let cells = |plan: &Plan| [vec![0], free(live, plan, bidder)].concat();
+    for bidder in 0..ground.live.len() {
+        let cells = |plan: &Plan| [vec![0], ground.free(plan, bidder)].concat();
         let longer =
             |plan: Plan| cells(&plan).into_iter().map(move |cell| [&plan[..], &[cell]].concat());
         plans = plans.into_iter().flat_map(longer).collect();
@@ -142,7 +174,8 @@ pub enum Flaw {
     Gone,
     /// The item is live, but the bidder has no edge there.
     Edgeless,
-    /// The bidder has a live edge there, but an earlier bidder has the item.
+    /// The bidder has a live edge there, but as many earlier bidders have the item as it
+    /// has places.
     Named,
 }
 
@@ -152,16 +185,15 @@ impl Flaw {
     /// The cells with this flaw for a bidder, from 0.
     fn cells(self, r: &Record, plan: &[u64], bidder: usize) -> Vec<u64> {
         let gone = |item: u64| r.is_gone(item as usize - 1);
-        let edge = |item: u64| r.rows[bidder][item as usize - 1] != 0;
+        let edge = |item: u64| r.weight_at(bidder, item as usize - 1) != 0;
+        let full = |item: u64| times(&plan[..bidder], item) >= r.counts[item as usize - 1] as u64;
         let items = 1..=r.items;
         match self {
             Flaw::Past => vec![r.items + 1],
             Flaw::Far => vec![257, 1 << 16, (1 << 32) + 1, 1 << 63, u64::MAX],
             Flaw::Gone => items.filter(|&item| gone(item) && edge(item)).collect(),
             Flaw::Edgeless => items.filter(|&item| !gone(item) && !edge(item)).collect(),
-            Flaw::Named => items
-                .filter(|&item| !gone(item) && edge(item) && plan[..bidder].contains(&item))
-                .collect(),
+            Flaw::Named => items.filter(|&item| !gone(item) && edge(item) && full(item)).collect(),
         }
     }
 

@@ -62,9 +62,16 @@ pub fn sheet(rng: &mut Rng, pattern: Pattern, bidders: u64, items: u64, density:
 }
 
 /// The board after these bidders have arrived at slack 1/2 in a random order of
-/// rows, and up to `withdrawals` items have left.
-pub fn board(rng: &mut Rng, mut sheet: Sheet, items: u64, withdrawals: u64) -> Record {
-    let mut auction = Auction::open(items, Slack { p: 1, q: 2 }).expect("1 to 64 items");
+/// rows, and up to `withdrawals` items have left. Items have one place each.
+pub fn board(rng: &mut Rng, sheet: Sheet, items: u64, withdrawals: u64) -> Record {
+    board_of(rng, sheet, &ones(items), withdrawals)
+}
+
+/// The same of items with so many places.
+pub fn board_of(rng: &mut Rng, mut sheet: Sheet, counts: &[u64], withdrawals: u64) -> Record {
+    let items = counts.len() as u64;
+    let opened = Auction::open_places(items, Slack { p: 1, q: 2 }, counts);
+    let mut auction = opened.expect("1 to 64 items, 64 places at most");
     rng.shuffle(&mut sheet);
     for row in &sheet {
         auction.arrive(&edges(row)).expect("a row is a list of edges");
@@ -79,7 +86,7 @@ pub fn board(rng: &mut Rng, mut sheet: Sheet, items: u64, withdrawals: u64) -> R
 pub fn live(r: &Record) -> Sheet {
     let weight = |bidder: usize, item: usize| match r.is_gone(item) {
         true => 0,
-        false => r.rows[bidder][item] as u64,
+        false => r.weight_at(bidder, item),
     };
     let row = |bidder: usize| (0..r.items as usize).map(|item| weight(bidder, item)).collect();
     (0..r.arrived as usize).map(row).collect()

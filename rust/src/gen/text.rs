@@ -4,9 +4,17 @@ use super::history::{Call, History};
 use crate::rng::Rng;
 use std::ops::Range;
 
-/// The text that tells this history.
+/// The text that tells this history. Items of one place have no `P` line.
 pub fn write(history: &History) -> Vec<u8> {
-    let mut out = format!("K\t{}\t{}\t{}\n", history.items, history.slack.p, history.slack.q);
+    write_naming(history, |count| count > 1)
+}
+
+/// The same with a `P` line for every item that has such a number of places.
+pub fn write_naming(history: &History, named: fn(u64) -> bool) -> Vec<u8> {
+    let mut out = format!("K\t{}\t{}\t{}\n", history.items(), history.slack.p, history.slack.q);
+    for (item, &count) in (1..).zip(&history.counts).filter(|(_, &count)| named(count)) {
+        out.push_str(&format!("P\t{item}\t{count}\n"));
+    }
     for call in &history.calls {
         match call {
             Call::Arrive(edges) => {
@@ -39,6 +47,22 @@ pub fn dense() -> Vec<u8> {
     out.into_bytes()
 }
 
+/// 16 items of 4 places each, 128 bidders, all 2,048 edges with weights 1 to 9,999, slack
+/// 1/100: as many places as the dense text has.
+pub fn dense_places() -> Vec<u8> {
+    let mut rng = Rng::new(2026);
+    let mut out = String::from("K\t16\t1\t100\n");
+    (1..=16).for_each(|item| out.push_str(&format!("P\t{item}\t4\n")));
+    for _ in 0..128 {
+        out.push('A');
+        for item in 1..=16 {
+            out.push_str(&format!("\t{item}\t{}", rng.range(1, 9_999)));
+        }
+        out.push('\n');
+    }
+    out.into_bytes()
+}
+
 /// A text of exactly so many bytes that is served: as the dense one, with as
 /// many weights of five digits as are needed.
 pub fn served_of_length(bytes: usize) -> Vec<u8> {
@@ -60,9 +84,9 @@ pub fn served_of_length(bytes: usize) -> Vec<u8> {
     out.into_bytes()
 }
 
-const NUMBERS: [&str; 22] = [
-    "0", "1", "2", "3", "10", "63", "64", "65", "128", "129", "999", "1000", "1001", "9999",
-    "1000000", "1000001", "9999999", "10000000", "00", "01", "", "-1",
+const NUMBERS: [&str; 24] = [
+    "0", "1", "2", "3", "8", "9", "10", "63", "64", "65", "128", "129", "999", "1000", "1001",
+    "9999", "1000000", "1000001", "9999999", "10000000", "00", "01", "", "-1",
 ];
 
 const BYTES: &[u8] = b"KAWPYTERkaw\t\t\t\n\n\n\r\0 0123456789-+.x\xff";
@@ -72,6 +96,9 @@ pub fn random(rng: &mut Rng) -> Vec<u8> {
     let mut out = Vec::new();
     if rng.chance(19, 20) {
         out.extend_from_slice(b"K\t3\t1\t10\n");
+    }
+    for _ in 0..rng.pick(&[0, 0, 0, 1, 1, 2, 3]) {
+        places_line(rng, &mut out);
     }
     for _ in 0..rng.below(9) {
         let letter = rng.pick(b"AAAAAAAAAAAAAAWWWWWWKP\t\n");
@@ -89,6 +116,13 @@ pub fn random(rng: &mut Rng) -> Vec<u8> {
     out
 }
 
+/// A `P` line, more often good than not.
+fn places_line(rng: &mut Rng, out: &mut Vec<u8>) {
+    let item = rng.pick(&[1, 1, 2, 2, 3, 3, 3, 0, 4]);
+    let count = rng.pick(&[1, 2, 2, 3, 4, 8, 8, 0, 9]);
+    out.extend_from_slice(format!("P\t{item}\t{count}\n").as_bytes());
+}
+
 fn random_field(rng: &mut Rng, out: &mut Vec<u8>) {
     out.push(if rng.chance(79, 80) { b'\t' } else { rng.pick(BYTES) });
     match rng.below(20) {
@@ -101,12 +135,13 @@ fn random_field(rng: &mut Rng, out: &mut Vec<u8>) {
 pub fn mutate(rng: &mut Rng, text: &[u8]) -> Vec<u8> {
     let mut out = text.to_vec();
     for _ in 0..rng.range(1, 4) {
-        match rng.below(11) {
+        match rng.below(12) {
             0..=4 => change_byte(rng, &mut out),
             5 | 6 => change_number(rng, &mut out),
             7 => change_lines(rng, &mut out),
             8 => add_number(rng, &mut out),
             9 => out.truncate(rng.index(out.len() + 1)),
+            10 => add_places(rng, &mut out),
             _ => out.extend_from_slice(&[rng.pick(BYTES)]),
         }
     }
@@ -156,6 +191,17 @@ fn add_number(rng: &mut Rng, text: &mut Vec<u8>) {
         let again = text[there.clone()].to_vec();
         let more = if rng.chance(1, 2) { again } else { rng.pick(&NUMBERS).into() };
         text.splice(there.start..there.start, [&more[..], b"\t"].concat());
+    }
+}
+
+/// A `P` line more, after one of the first three lines.
+fn add_places(rng: &mut Rng, text: &mut Vec<u8>) {
+    let ends: Vec<usize> = (1..=text.len()).filter(|&end| text[end - 1] == b'\n').take(3).collect();
+    if !ends.is_empty() {
+        let at = rng.pick(&ends);
+        let mut line = Vec::new();
+        places_line(rng, &mut line);
+        text.splice(at..at, line);
     }
 }
 

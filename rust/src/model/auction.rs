@@ -1,11 +1,16 @@
 //! The auction (document 01: the board) and its calls open, arrive, withdraw
-//! and read out. A bidder is a batch, an item a kettle, an edge an entry.
+//! and read out. A bidder is a batch, an item a kettle, an edge an entry. An item has
+//! one place or more (document 02, R-6), each with its own price.
 
 use super::refusal::*;
 use std::cmp::Reverse;
 use std::collections::BTreeSet;
 
 pub const MAX_ITEMS: usize = 64;
+/// Of all items.
+pub const MAX_PLACES: usize = 64;
+/// Of one item.
+pub const MAX_COUNT: u64 = 8;
 pub const MAX_BIDDERS: usize = 128;
 pub const MAX_WEIGHT: u64 = 1_000_000;
 pub const MAX_Q: u64 = 1_000;
@@ -26,16 +31,24 @@ pub struct Edge {
 
 #[derive(Clone, Debug, PartialEq, Eq)]
 pub struct Item {
-    pub price: u64,
+    /// The price of each place.
+    pub prices: Vec<u64>,
     pub withdrawn: bool,
+}
+
+/// An item's number and a place's number in it, both from 1. Places stand in item order,
+/// those of an item side by side.
+#[derive(Clone, Copy, Debug, PartialEq, Eq, PartialOrd, Ord)]
+pub struct Place {
+    pub item: u64,
+    pub number: u64,
 }
 
 #[derive(Clone, Debug, PartialEq, Eq)]
 pub struct Bidder {
     pub edges: Vec<Edge>,
     pub gain: u64,
-    /// The item held, 0 where the bidder is unplaced.
-    pub item: u64,
+    pub held: Option<Place>,
 }
 
 /// A sound auction. Item and bidder of number n stand at n - 1.
@@ -58,16 +71,70 @@ impl Slack {
     }
 }
 
+impl Item {
+    /// An item of so many places, all free.
+    pub fn free(count: u64) -> Item {
+        Item { prices: vec![0; count as usize], withdrawn: false }
+    }
+
+    pub fn count(&self) -> u64 {
+        self.prices.len() as u64
+    }
+
+    /// "Read-out gives a kettle's least price" (document 02, R-6).
+    pub fn price(&self) -> u64 {
+        *self.prices.iter().min().expect("an item has a place")
+    }
+
+    /// "it leaves the live sheet and its price becomes 0"; "A withdrawal removes all places".
+    pub fn leave(&mut self) {
+        self.withdrawn = true;
+        self.prices.fill(0);
+    }
+}
+
+impl Bidder {
+    pub fn unplaced(edges: Vec<Edge>) -> Bidder {
+        Bidder { edges, gain: 0, held: None }
+    }
+
+    /// The item held, 0 where the bidder is unplaced.
+    pub fn item(&self) -> u64 {
+        self.held.map_or(0, |place| place.item)
+    }
+}
+
+/// One place for each of so many items.
+pub fn ones(items: u64) -> Vec<u64> {
+    vec![1; items.min(MAX_ITEMS as u64) as usize]
+}
+
 impl Auction {
+    /// Items of one place each.
     pub fn open(items: u64, slack: Slack) -> Result<Auction, Refusal> {
+        Auction::open_places(items, slack, &ones(items))
+    }
+
+    /// "at opening after 2, 9 for counts of another length, then 16 "places": a count
+    /// outside 1 to 8 at that kettle, else over 64 in all at place 0" (document 02, R-6).
+    pub fn open_places(items: u64, slack: Slack, counts: &[u64]) -> Result<Auction, Refusal> {
         if items < 1 || items > MAX_ITEMS as u64 {
             return refuse(COUNT, 0);
         }
         if !slack.may_open() {
             return refuse(SLACK, 0);
         }
-        let item = Item { price: 0, withdrawn: false };
-        Ok(Auction { slack, items: vec![item; items as usize], bidders: Vec::new() })
+        if counts.len() as u64 != items {
+            return refuse(UNEVEN, 0);
+        }
+        if let Some(item) = counts.iter().position(|&count| !may_have(count)) {
+            return refuse(PLACES, item as u64 + 1);
+        }
+        if counts.iter().sum::<u64>() > MAX_PLACES as u64 {
+            return refuse(PLACES, 0);
+        }
+        let items = counts.iter().map(|&count| Item::free(count)).collect();
+        Ok(Auction { slack, items, bidders: Vec::new() })
     }
 
     /// A new bidder with these edges bids; the answer is the number of bids.
@@ -79,7 +146,7 @@ impl Auction {
             let before = if index == 0 { 0 } else { edges[index - 1].item };
             self.admit(edge, before, index as u64 + 1)?;
         }
-        self.bidders.push(Bidder { edges: edges.to_vec(), gain: 0, item: 0 });
+        self.bidders.push(Bidder::unplaced(edges.to_vec()));
         Ok(self.settle(self.bidders.len() - 1))
     }
 
@@ -100,17 +167,16 @@ impl Auction {
     }
 
     /// "All go first; then the displaced batches bid in number order, each chain run
-    /// to its end" (document 02, R-3). The answer is the number of bids.
+    /// to its end" (document 02, R-3). "A withdrawal removes all places, with displaced
+    /// batches in R-3's order" (R-6). The answer is the number of bids.
     pub fn withdraw(&mut self, items: &[u64]) -> Result<u64, Refusal> {
         for (index, &item) in items.iter().enumerate() {
             let before = if index == 0 { 0 } else { items[index - 1] };
             self.dismiss(item, before, index as u64 + 1)?;
         }
-        let holders: BTreeSet<usize> = items.iter().filter_map(|&i| self.holder(i)).collect();
+        let holders: BTreeSet<usize> = items.iter().flat_map(|&i| self.holders(i)).collect();
         holders.iter().for_each(|&bidder| self.displace(bidder));
-        for &item in items {
-            self.items[item as usize - 1] = Item { price: 0, withdrawn: true };
-        }
+        items.iter().for_each(|&item| self.items[item as usize - 1].leave());
         Ok(holders.into_iter().map(|bidder| self.settle(bidder)).sum())
     }
 
@@ -147,6 +213,11 @@ impl Auction {
     }
 }
 
+/// Whether an item may have so many places.
+pub fn may_have(count: u64) -> bool {
+    (1..=MAX_COUNT).contains(&count)
+}
+
 /// The rule.
 impl Auction {
     /// The chain of bids that starts with this bidder; its length.
@@ -154,48 +225,49 @@ impl Auction {
         let mut bids = 0;
         let mut next = Some(bidder);
         while let Some(bidder) = next {
-            let Some(edge) = self.best_open(bidder) else {
+            let Some((weight, place)) = self.best_open(bidder) else {
                 break;
             };
-            next = self.holder(edge.item);
+            next = self.holder(place);
             if let Some(displaced) = next {
                 self.displace(displaced);
             }
-            self.take(bidder, edge);
+            self.take(bidder, weight, place);
             bids += 1;
         }
         bids
     }
 
-    /// The open live edge of greatest utility. "Of two kettles with equal utility a
-    /// batch takes the one with the larger worth, and only then the lower number"
-    /// (document 02, R-1).
-    fn best_open(&self, bidder: usize) -> Option<Edge> {
-        let edges = self.bidders[bidder].edges.iter().copied();
-        edges
-            .filter(|&e| self.is_live(e) && self.is_open(e))
-            .max_by_key(|&e| (self.utility(e), e.weight, Reverse(e.item)))
+    /// The open live edge of greatest utility, its weight and a place of its item. "Of two
+    /// kettles with equal utility a batch takes the one with the larger worth, and only
+    /// then the lower number" (document 02, R-1); "a batch compares places, and the lower
+    /// place breaks a last tie" (R-6).
+    fn best_open(&self, bidder: usize) -> Option<(u64, Place)> {
+        let live = self.bidders[bidder].edges.iter().filter(|&&e| self.is_live(e));
+        live.flat_map(|e| self.places(e.item).map(|place| (e.weight, place)))
+            .filter(|&(weight, place)| self.is_open(weight, place))
+            .max_by_key(|&(weight, place)| (self.utility(weight, place), weight, Reverse(place)))
     }
 
-    fn take(&mut self, bidder: usize, edge: Edge) {
-        self.bidders[bidder].gain = self.utility(edge);
-        self.bidders[bidder].item = edge.item;
-        self.items[edge.item as usize - 1].price += self.slack.p * edge.weight;
+    fn take(&mut self, bidder: usize, weight: u64, place: Place) {
+        self.bidders[bidder].gain = self.utility(weight, place);
+        self.bidders[bidder].held = Some(place);
+        *self.price_mut(place) += self.slack.p * weight;
     }
 
     fn displace(&mut self, bidder: usize) {
-        self.bidders[bidder].item = 0;
+        self.bidders[bidder].held = None;
         self.bidders[bidder].gain = 0;
     }
 
-    fn is_open(&self, edge: Edge) -> bool {
+    fn is_open(&self, weight: u64, place: Place) -> bool {
         let Slack { p, q } = self.slack;
-        self.item(edge.item).price + p * edge.weight < q * edge.weight
+        self.price(place) + p * weight < q * weight
     }
 
     /// Asked of open edges only, so it is not negative.
-    fn utility(&self, edge: Edge) -> u64 {
-        self.slack.q * edge.weight - self.item(edge.item).price
+    fn utility(&self, weight: u64, place: Place) -> u64 {
+        self.slack.q * weight - self.price(place)
     }
 }
 
@@ -213,33 +285,63 @@ impl Auction {
         !self.item(edge.item).withdrawn
     }
 
-    /// Who holds the item, counted from 0.
-    pub fn holder(&self, item: u64) -> Option<usize> {
-        self.bidders.iter().position(|b| b.item == item)
+    /// The places of an item.
+    pub fn places(&self, item: u64) -> impl Iterator<Item = Place> {
+        (1..=self.item(item).count()).map(move |number| Place { item, number })
+    }
+
+    pub fn price(&self, place: Place) -> u64 {
+        self.item(place.item).prices[place.number as usize - 1]
+    }
+
+    pub fn price_mut(&mut self, place: Place) -> &mut u64 {
+        &mut self.items[place.item as usize - 1].prices[place.number as usize - 1]
+    }
+
+    /// Who holds the place, counted from 0.
+    pub fn holder(&self, place: Place) -> Option<usize> {
+        self.bidders.iter().position(|b| b.held == Some(place))
+    }
+
+    /// Who holds a place of the item, in the order of its places.
+    pub fn holders(&self, item: u64) -> Vec<usize> {
+        self.places(item).filter_map(|place| self.holder(place)).collect()
     }
 
     /// A cell per bidder: its item, or 0.
     pub fn matching(&self) -> Vec<u64> {
-        self.bidders.iter().map(|b| b.item).collect()
+        self.bidders.iter().map(Bidder::item).collect()
     }
 
+    /// A cell per item: its least price.
     pub fn prices(&self) -> Vec<u64> {
-        self.items.iter().map(|i| i.price).collect()
+        self.items.iter().map(Item::price).collect()
     }
 
     pub fn gains(&self) -> Vec<u64> {
         self.bidders.iter().map(|b| b.gain).collect()
     }
 
+    /// How many places each item has.
+    pub fn counts(&self) -> Vec<u64> {
+        self.items.iter().map(Item::count).collect()
+    }
+
+    /// How many places these edges are at: "the bid bound counts an entry once per place".
+    pub fn places_at(&self, edges: &[Edge]) -> u64 {
+        edges.iter().map(|edge| self.item(edge.item).count()).sum()
+    }
+
     /// The matching's weight (document 01: the plan's worth).
     pub fn weight(&self) -> u64 {
-        let held = |b: &Bidder| b.edges.iter().find(|e| e.item == b.item).map_or(0, |e| e.weight);
+        let held = |b: &Bidder| b.edges.iter().find(|e| e.item == b.item()).map_or(0, |e| e.weight);
         self.bidders.iter().map(held).sum()
     }
 
-    /// All prices and gains added.
+    /// All gains and "every place's price" added.
     pub fn sum(&self) -> u64 {
-        self.prices().iter().sum::<u64>() + self.gains().iter().sum::<u64>()
+        let prices = self.items.iter().flat_map(|item| &item.prices);
+        prices.sum::<u64>() + self.gains().iter().sum::<u64>()
     }
 
     /// The live edges as a matrix: a row per bidder, a column per item, 0 for none.

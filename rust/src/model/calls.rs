@@ -9,8 +9,8 @@ use super::refusal::*;
 use super::sound::{from_record, to_record, Record};
 use crate::page;
 
-pub fn open_record(items: u64, slack: Slack) -> Result<Record, Refusal> {
-    Auction::open(items, slack).map(|auction| to_record(&auction))
+pub fn open_record(items: u64, slack: Slack, counts: &[u64]) -> Result<Record, Refusal> {
+    Auction::open_places(items, slack, counts).map(|auction| to_record(&auction))
 }
 
 pub fn arrive_record(record: &mut Record, edges: &[Edge]) -> Result<u64, Refusal> {
@@ -49,7 +49,7 @@ pub fn exact_record(
     if matching.len() < bidders || price.len() < items || gain.len() < bidders {
         return refuse(SHORT, 0);
     }
-    let exact = hungarian::solve(&auction.live_weights(), items);
+    let exact = hungarian::solve(&auction.live_weights(), &auction.counts());
     matching[..bidders].copy_from_slice(&exact.matching);
     price[..items].copy_from_slice(&exact.price);
     gain[..bidders].copy_from_slice(&exact.gain);

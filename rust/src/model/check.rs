@@ -10,7 +10,7 @@ pub const MAX_PRICE: u64 = 1_000_000_000;
 pub struct Totals {
     /// The matching's weight, in pence.
     pub weight: u64,
-    /// All prices and gains added.
+    /// All gains, and each item's price once per place, added.
     pub sum: u64,
 }
 
@@ -66,7 +66,9 @@ fn is_bare(auction: &Auction, claim: &Claim, bidder: usize) -> bool {
     })
 }
 
+/// "the check and exact level count a kettle's price once per place" (document 02, R-6).
 fn totals(auction: &Auction, claim: &Claim) -> Totals {
-    let sum = claim.price.iter().chain(&claim.gain).sum();
+    let prices = claim.price.iter().zip(&auction.items).map(|(price, item)| price * item.count());
+    let sum = prices.sum::<u64>() + claim.gain.iter().sum::<u64>();
     Totals { weight: weight(auction, &claim.matching), sum }
 }

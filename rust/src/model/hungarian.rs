@@ -1,10 +1,12 @@
-//! A matching of greatest weight with a cover of equal sum, and a count by
-//! trying everything, for tiny matrices.
+//! A matching of greatest weight with a cover of equal sum, where an item has places and
+//! its price counts once for each, and a count by trying everything, for tiny matrices.
 //!
 //! Rows are bidders, columns items, 0 is no edge. The solver is the assignment
-//! method of least cost with potentials, over the items and one more dummy
+//! method of least cost with potentials, over the places and one more dummy
 //! column than there are rows: a row at a dummy is unplaced. One dummy always
 //! stays free, at potential 0, so no gain is negative and no dummy has a price.
+//! An item's price is the least of its places'. A cover by places covers with it
+//! too, and no sum is below the weight, so the places of an item have one price.
 
 #[derive(Clone, Debug, PartialEq, Eq)]
 pub struct Exact {
@@ -19,7 +21,8 @@ pub struct Exact {
 /// rows from 1, 0 for none.
 struct Assignment<'a> {
     weights: &'a [Vec<u64>],
-    items: usize,
+    /// The item of each place, from 0.
+    items: Vec<usize>,
     row: Vec<i64>,
     column: Vec<i64>,
     at: Vec<usize>,
@@ -27,10 +30,9 @@ struct Assignment<'a> {
 
 impl Assignment<'_> {
     fn cost(&self, row: usize, column: usize) -> i64 {
-        if column <= self.items {
-            -(self.weights[row - 1][column - 1] as i64)
-        } else {
-            0
+        match self.items.get(column - 1) {
+            Some(&item) => -(self.weights[row - 1][item] as i64),
+            None => 0,
         }
     }
 
@@ -75,10 +77,18 @@ impl Assignment<'_> {
     }
 }
 
-/// The greatest weight with a matching and a whole-number cover that have it.
-pub fn solve(weights: &[Vec<u64>], items: usize) -> Exact {
+/// The item of each place where the items have so many, from 0.
+pub fn items_by_place(counts: &[u64]) -> Vec<usize> {
+    let places = |(item, &count): (usize, &u64)| vec![item; count as usize];
+    counts.iter().enumerate().flat_map(places).collect()
+}
+
+/// The greatest weight with a matching and a whole-number cover that have it, where the
+/// items have so many places.
+pub fn solve(weights: &[Vec<u64>], counts: &[u64]) -> Exact {
     let rows = weights.len();
-    let columns = 1 + items + rows + 1;
+    let items = items_by_place(counts);
+    let columns = 1 + items.len() + rows + 1;
     let mut a = Assignment {
         weights,
         items,
@@ -88,35 +98,36 @@ pub fn solve(weights: &[Vec<u64>], items: usize) -> Exact {
     };
     (1..=rows).for_each(|row| a.place(row));
     let mut matching = vec![0; rows];
+    let mut price = vec![u64::MAX; counts.len()];
     let mut weight = 0;
-    for item in 1..=items {
-        let row = a.at[item];
-        if row != 0 && weights[row - 1][item - 1] != 0 {
-            matching[row - 1] = item as u64;
-            weight += weights[row - 1][item - 1];
+    for (place, &item) in a.items.iter().enumerate() {
+        let row = a.at[place + 1];
+        if row != 0 && weights[row - 1][item] != 0 {
+            matching[row - 1] = item as u64 + 1;
+            weight += weights[row - 1][item];
         }
+        price[item] = price[item].min((-a.column[place + 1]) as u64);
     }
-    let price = a.column[1..=items].iter().map(|&v| (-v) as u64).collect();
     let gain = a.row[1..].iter().map(|&u| (-u) as u64).collect();
     Exact { weight, matching, price, gain }
 }
 
-/// The greatest weight: none and every free item for the first bidder, then
+/// The greatest weight: none and every item with a free place for the first bidder, then
 /// likewise for the rest.
-pub fn brute_force(weights: &[Vec<u64>], items: usize) -> u64 {
-    fn rest(weights: &[Vec<u64>], taken: &mut Vec<bool>) -> u64 {
+pub fn brute_force(weights: &[Vec<u64>], counts: &[u64]) -> u64 {
+    fn rest(weights: &[Vec<u64>], free: &mut [u64]) -> u64 {
         let Some((first, others)) = weights.split_first() else {
             return 0;
         };
-        let mut best = rest(others, taken);
-        for item in 0..taken.len() {
-            if !taken[item] && first[item] != 0 {
-                taken[item] = true;
-                best = best.max(first[item] + rest(others, taken));
-                taken[item] = false;
+        let mut best = rest(others, free);
+        for item in 0..free.len() {
+            if free[item] > 0 && first[item] != 0 {
+                free[item] -= 1;
+                best = best.max(first[item] + rest(others, free));
+                free[item] += 1;
             }
         }
         best
     }
-    rest(weights, &mut vec![false; items])
+    rest(weights, &mut counts.to_vec())
 }

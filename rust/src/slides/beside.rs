@@ -1,7 +1,7 @@
 //! The proved calls beside the slides: a call on both, and what its bids met.
 
 use super::fraction::Fraction;
-use super::{Offer, Slides};
+use super::{Offer, Place, Slides};
 use crate::both::{equal, Same};
 use crate::ffi::{self, Told};
 use crate::gen::history::Call;
@@ -19,10 +19,11 @@ pub struct Met {
     /// Turns without an open edge.
     pub ends: u64,
     /// Bids at which another open edge had the utility picked: one of another weight, one
-    /// of the same, one at a lower item.
+    /// of the same, one at a lower item; and at which the same edge had it at another place.
     pub weights: u64,
     pub full: u64,
     pub lower: u64,
+    pub places: u64,
     /// Turns at which an edge's utility was ε times its weight; of these, turns at which
     /// it would be picked if that were open.
     pub bar: u64,
@@ -48,15 +49,17 @@ impl Met {
     }
 
     fn note(&mut self, slides: &Slides, all: &[Offer], open: &[Offer], picked: Offer) {
-        let equal = |uv: &&Offer| uv.utility == picked.utility && uv.item != picked.item;
-        let equal: Vec<&Offer> = open.iter().filter(equal).collect();
+        let equal = open.iter().filter(|uv| uv.utility == picked.utility);
+        let (own, equal): (Vec<&Offer>, Vec<&Offer>) =
+            equal.partition(|uv| uv.place.0 == picked.place.0);
         self.bids += 1;
-        self.displaced += slides.allocated.contains_key(&picked.item) as u64;
+        self.places += (own.len() > 1) as u64;
+        self.displaced += slides.allocated.contains_key(&picked.place) as u64;
         self.weights += equal.iter().any(|uv| uv.weight != picked.weight) as u64;
         self.full += equal.iter().any(|uv| uv.weight == picked.weight) as u64;
-        self.lower += equal.iter().any(|uv| uv.item < picked.item) as u64;
+        self.lower += equal.iter().any(|uv| uv.place < picked.place) as u64;
         self.closed += all.iter().any(|uv| uv.utility > picked.utility) as u64;
-        self.parts += slides.prices[&picked.item].to_whole().is_none() as u64;
+        self.parts += slides.prices[&picked.place].to_whole().is_none() as u64;
     }
 }
 
@@ -66,21 +69,37 @@ pub fn scaled(pence: Option<&Fraction>, q: u64) -> u64 {
     (pence * Fraction::whole(q)).to_whole().expect("whole q-ths of a penny")
 }
 
-/// Matching, prices and gains as a read-out has them.
+/// Matching, prices and gains as a read-out has them: "a kettle's least price" (document
+/// 02, R-6).
 pub fn lists(slides: &Slides, items: u64, q: u64) -> [Vec<u64>; 3] {
     let mut matching = vec![0; slides.edges.len()];
-    slides.allocated.iter().for_each(|(&u, &v)| matching[v as usize - 1] = u);
-    let prices = (1..=items).map(|u| scaled(slides.prices.get(&u), q)).collect();
+    slides.allocated.iter().for_each(|(&(item, _), &v)| matching[v as usize - 1] = item);
+    let least = |item: u64| slides.prices.range((item, 0)..(item + 1, 0)).map(|(_, y)| y).min();
+    let prices = (1..=items).map(|item| scaled(least(item), q)).collect();
     let gains = slides.edges.keys().map(|v| scaled(slides.gains.get(v), q)).collect();
     [matching, prices, gains]
 }
 
-pub fn equal_lists(ours: &ffi::Auction, slides: &Slides) -> Same<()> {
-    let [bidders, items] = [ours.arrived, ours.items].map(|cells| cells as usize);
+pub fn equal_lists(ours: &ffi::Board, slides: &Slides) -> Same<()> {
+    let [bidders, items] = [ours.arrived, ours.items.count].map(|cells| cells as usize);
     let [mut m, mut y, mut g] = [bidders, items, bidders].map(|cells| vec![u64::MAX; cells]);
     let answer = ffi::read_out(*ours, &mut m, &mut y, &mut g);
     equal("read out", answer, Told { number: 0, place: 0, value: 0 })?;
-    equal("read out, the lists", [m, y, g], lists(slides, ours.items, ours.slack.q))
+    equal("read out, the lists", [m, y, g], lists(slides, ours.items.count, ours.slack.q))?;
+    let [prices, holders] = [ours.price.map(|y| y.0), ours.holder.map(u64::from)]
+        .map(|cells| cells[..ours.places as usize].to_vec());
+    equal("place by place", [prices, holders], by_place(slides, &ours.items, ours.slack.q))
+}
+
+/// The price of each place, and the bidder that it is allocated to.
+fn by_place(slides: &Slides, items: &ffi::Items, q: u64) -> [Vec<u64>; 2] {
+    let counts = items.places.iter().take(items.count as usize);
+    let places =
+        (1..).zip(counts).flat_map(|(item, &count)| (1..=count).map(move |n| (item, n as u64)));
+    let places: Vec<Place> = places.collect();
+    let price = |u: &Place| scaled(slides.prices.get(u), q);
+    let holder = |u: &Place| slides.allocated.get(u).copied().unwrap_or(0);
+    [places.iter().map(price).collect(), places.iter().map(holder).collect()]
 }
 
 /// The while has ended: no unallocated bidder has an open edge.
@@ -97,7 +116,7 @@ pub fn enter(slides: &mut Slides, call: &Call) {
     }
 }
 
-pub fn call_ours(board: ffi::Auction, call: &Call) -> ffi::Answer {
+pub fn call_ours(board: ffi::Board, call: &Call) -> ffi::Answer {
     let lent = |edge: &Edge| ffi::Edge { item: edge.item, weight: edge.weight };
     match call {
         Call::Arrive(edges) => ffi::arrive(board, &edges.iter().map(lent).collect::<Vec<_>>()),
@@ -106,7 +125,7 @@ pub fn call_ours(board: ffi::Auction, call: &Call) -> ffi::Answer {
 }
 
 /// A call on both; it is served.
-pub fn step(ours: &mut ffi::Auction, slides: &mut Slides, call: &Call, met: &mut Met) -> Same<()> {
+pub fn step(ours: &mut ffi::Board, slides: &mut Slides, call: &Call, met: &mut Met) -> Same<()> {
     enter(slides, call);
     met.calls += 1;
     met.several += (slides.waiting.len() > 1) as u64;

@@ -6,15 +6,17 @@ use Prim.Native.Nat.{_+_}
 use native.Mathlib.Omega.{arith}
 use lib.ListN.{length}
 use borrow.Author.Tests.{not-true, not-false}
-use Rattle.board.specs.declared.record.Auction.{Auction}
-use Rattle.board.specs.SoundTest.{soundTest}
-use Rattle.board.specs.Sound.{Sound}
+use Rattle.supply.specs.declared.record.Board.{Board}
+use Rattle.supply.specs.SoundTest.{soundTest}
+use Rattle.supply.specs.Sound.{Sound}
+use Rattle.supply.specs.Shape.{Located}
 use Rattle.board.specs.Ranges.{SlackIn, slackTest}
 use Rattle.refusals.specs.declared.Verdict.the-variants.{Served}
 use Rattle.refusals.specs.Demand1.{Check, firstOf}
 use Rattle.board.specs.Lent.{Lists, lists}
 use Rattle.board.proofs.Tests.{slack-decides}
-use Rattle.board.proofs.SoundLaw.{sound-decides}
+use Rattle.supply.proofs.Shaping.{sound-fits, sound-located}
+use Rattle.supply.proofs.SoundLaw.{sound-decides}
 use Rattle.certificate.specs.Check.{Even, evenTest, checkBy, checkOf}
 use Rattle.certificate.specs.Accepted.{Accepted}
 use Rattle.certificate.proofs.Tests.{lists-even}
@@ -28,7 +30,7 @@ use Rattle.certificate.proofs.check.Tie as tie
 -- ---- The way back from each place
 
 abbrev start : tie.After-is-sound-in → tie.Start
-start c = c .before .before .before .before .before .before .before .before
+start c = c .before .before .before .before .before .before .before .before .before
 
 abbrev sounded : tie.Else2 → tie.Else1
 sounded c = c .before .before
@@ -40,19 +42,23 @@ slacked c = c .before .before
 abbrev first : tie.Else3 → tie.Start
 first c = start (sounded (slacked c) .before)
 
+-- Where the first place of each item is known
+abbrev started : tie.After-lists-verdict → tie.After-starts-of
+started c = c .before .before .before .before .before .before
+
 abbrev evened : tie.After-lists-verdict → tie.Else3
-evened c = c .before .before .before .before .before
+evened c = started c .before
 
 -- Where no refusal is met
 abbrev listed : tie.After-enum-told → tie.After-lists-verdict
 listed c = c .before .before
 
 abbrev passed : tie.After-plan-weight → tie.After-enum-told
-passed c = c .before .before .before .before .before
+passed c = c .before .before .before .before .before .before
 
 -- ---- What is known at each place
 
-abbrev board : tie.Start → Auction
+abbrev board : tie.Start → Board
 board c = c .args .t1
 
 abbrev lent : tie.Start → Lists
@@ -70,7 +76,7 @@ slack c = sym (c .before .is-slack .ensures) ∙ not-false _ (c .if2 .left)
 even : (c : tie.Else3) →
     let b = board (first c) in
     let l = lent (first c) in
-    evenTest (b .market .arrived) (b .market .items) (length (l .plan)) (length (l .prices)) (length (l .gains)) ≡ true
+    evenTest (b .market .arrived) (b .items .count) (length (l .plan)) (length (l .prices)) (length (l .gains)) ≡ true
 even c = sym (c .before .is-even .ensures) ∙ not-false _ (c .if3 .left)
 
 ready : (c : tie.Else3) →
@@ -82,8 +88,11 @@ ready c = (
   lists-even _ _ .sound (even c),
 )
 
+located : (c : tie.After-starts-of) → Located (board (first (c .before)) .items) (c .starts-of .result)
+located c = sound-located _ _ (ready (c .before) .0) (c .starts-of .ensures)
+
 verdict : (c : tie.After-lists-verdict) → c .lists-verdict .result ≡ firstOf (checks (first (evened c)))
-verdict c = let (s, t, e) = ready (evened c) in rw (e .plan, e .prices) at (c .lists-verdict .ensures)
+verdict c = let (s, t, e) = ready (evened c) in rw (e .plan) at (c .lists-verdict .ensures)
 
 served : (c : tie.After-enum-told) → firstOf (checks (first (evened (listed c)))) ≡ Served
 served c = sym (verdict (listed c)) ∙ c .enum-told .given .1
@@ -123,14 +132,19 @@ returns-3 c =
     let s = start (sounded e .before) in
     check-uneven _ (lent s) _ _ (sound (sounded e)) (slack e) (sym (c .before .is-even .ensures) ∙ not-true _ (c .if3 .taken))
 
+starts-of-requires : tie.Need-starts-of-requires
+starts-of-requires c κs = sound-fits _ (ready c .0)
+
 lists-verdict-requires : tie.Need-lists-verdict-requires
 lists-verdict-requires c κs =
-    let (s, t, e) = ready (c .before .before .before .before) in (
-      omega (arith, s .arrived, e .plan),
-      omega (arith, s .items .1, e .prices),
+    let at = c .before .before .before .before .before in
+    let (s, t, e) = ready (at .before) in (
+      omega (arith, s .auction .arrived, e .plan),
+      e .prices,
       omega (arith, e .gains, e .plan),
       t .below,
       t .high,
+      located at,
     )
 
 enum-known-verdict : tie.Need-enum-known-verdict
@@ -141,24 +155,25 @@ enum-told c = search needs
 
 plan-weight-requires : tie.Need-plan-weight-requires
 plan-weight-requires c κs =
-    let a = accepted (c .before .before .before .before) in
+    let told = c .before .before .before .before .before in
+    let a = accepted told in
     let e = a .even .plan in
-    (omega (arith, a .sound .arrived), λ i h. omega (arith, cell-within (a .matches) i (omega arith), a .sound .items .1))
+    (omega (arith, a .sound .auction .arrived), located (started (listed told)), λ i h. cell-within (a .matches) i (omega arith))
 
-sum-of-requires : tie.Need-sum-of-requires
-sum-of-requires c κs =
+prices-sum-requires : tie.Need-prices-sum-requires
+prices-sum-requires c κs =
     let a = accepted (passed c) in
     let e = a .even .prices in
-    (omega (arith, a .sound .items .1), λ k h. a .prices k (omega arith))
+    (omega (arith, a .sound .laid .count .high), λ k h. a .prices k (omega arith))
 
-sum-of-requires-2 : tie.Need-sum-of-requires-2
-sum-of-requires-2 c κs =
+gains-sum-requires : tie.Need-gains-sum-requires
+gains-sum-requires c κs =
     let a = accepted (passed (c .before)) in
     let e = a .even .gains in
-    (omega (arith, a .sound .arrived), λ i h. a .gains i (omega arith))
+    (omega (arith, a .sound .auction .arrived), λ i h. a .gains i (omega arith))
 
-add-t33 : tie.Need-add-t33
-add-t33 c = search needs
+add-t38 : tie.Need-add-t38
+add-t38 c = search needs
 
 returns-4 : tie.Need-returns-4
 returns-4 c =
@@ -173,7 +188,7 @@ returns-4 c =
     _
     (served told)
     (rw (e .plan) at (at .plan-weight .ensures))
-    (ap₂ _+_ (rw (e .prices) at (c .before .sum-of .ensures .0)) (rw (e .gains) at (c .sum-of2 .ensures .0))) ∙
+    (ap₂ _+_ (rw (e .prices) at (c .before .prices-sum .ensures .0)) (rw (e .gains) at (c .gains-sum .ensures .0))) ∙
     by-lists (evened (listed told))
 
 returns-5 : tie.Need-returns-5
@@ -191,12 +206,13 @@ check-spec =
     returns-2
     is-even-requires
     returns-3
+    starts-of-requires
     lists-verdict-requires
     enum-known-verdict
     enum-told
     plan-weight-requires
-    sum-of-requires
-    sum-of-requires-2
-    add-t33
+    prices-sum-requires
+    gains-sum-requires
+    add-t38
     returns-4
     returns-5)

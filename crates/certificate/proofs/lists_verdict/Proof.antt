@@ -6,7 +6,8 @@ use lib.ListN.{length}
 use Rattle.duality.specs.Lists.{cells}
 use Rattle.refusals.specs.declared.Verdict.{Verdict}
 use Rattle.refusals.specs.Demand1.{Check, firstOf}
-use Rattle.board.specs.Live.{liveOf}
+use Rattle.supply.specs.Board.{placesIn}
+use Rattle.supply.specs.ByItem.{goneBy, liveBy}
 use Rattle.matching.specs.Clash.{clashChecks}
 use Rattle.certificate.specs.Check.{priceChecks, gainChecks, bareChecks, listChecks}
 use Rattle.certificate.proofs.Served.{price-served, gain-served}
@@ -34,35 +35,39 @@ gained c = c .before .before .before
 abbrev clashes : tie.Start → List Check
 clashes c =
     let a = c .args in
-    clashChecks (length (a .prices .now)) (liveOf (a .withdrawn .now) (a .weights .now)) (cells (a .plan .now)) (length (a .plan .now))
+    clashChecks (a .items .count) (placesIn (a .items)) (liveBy (a .items) (a .withdrawn .now) (a .weights .now)) (cells (a .plan .now)) (length (a .plan .now))
 
 abbrev highs : tie.Start → List Check
-highs c = let a = c .args in priceChecks (a .withdrawn .now) (cells (a .prices .now)) (length (a .prices .now))
+highs c = let a = c .args in priceChecks (goneBy (a .items) (a .withdrawn .now)) (cells (a .prices .now)) (a .items .count)
+
+-- There are as many prices as items
+prices-verdict : (c : tie.After-prices-verdict) → c .prices-verdict .result ≡ firstOf (highs (start (planned c)))
+prices-verdict c = rw (start (planned c) .pre .1) at (c .prices-verdict .ensures)
 
 plan-passed : (c : tie.After-enum-told) {v : Verdict} (rest : List Check) → v ≡ firstOf rest → v ≡ firstOf (clashes (start (c .before .before)) ++ rest)
 plan-passed c rest e = passes-on _ _ _ _ (c .before .before .plan-verdict .ensures) (c .enum-told .given .1) e
 
 prices-passed : (c : tie.After-enum-told3) {v : Verdict} (rest : List Check) → v ≡ firstOf rest →
     v ≡ firstOf (highs (start (planned (c .before .before))) ++ rest)
-prices-passed c rest e = passes-on _ _ _ _ (c .before .before .prices-verdict .ensures) (c .enum-told3 .given .1) e
+prices-passed c rest e = passes-on _ _ _ _ (prices-verdict (c .before .before)) (c .enum-told3 .given .1) e
 
 -- There are as many gains as cells of the plan
 gains-verdict : (c : tie.After-gains-verdict) →
     let a = start (planned (priced c)) .args in
-    c .gains-verdict .result ≡ firstOf (gainChecks (length (a .prices .now)) (cells (a .gains .now)) (length (a .plan .now)))
+    c .gains-verdict .result ≡ firstOf (gainChecks (a .items .count) (cells (a .gains .now)) (length (a .plan .now)))
 gains-verdict c = rw (start (planned (priced c)) .pre .2) at (c .gains-verdict .ensures)
 
 cover-verdict : (c : tie.After-cover-verdict) →
     let a = start (planned (priced (gained c))) .args in
-    let live = liveOf (a .withdrawn .now) (a .weights .now) in
+    let live = liveBy (a .items) (a .withdrawn .now) (a .weights .now) in
     c .cover-verdict .result ≡
-    firstOf (bareChecks (length (a .prices .now)) live (a .slack .p) (a .slack .q) (cells (a .prices .now)) (cells (a .gains .now)) (length (a .plan .now)))
-cover-verdict c = rw (start (planned (priced (gained c))) .pre .2) at (c .cover-verdict .ensures)
+    firstOf (bareChecks (a .items .count) live (a .slack .p) (a .slack .q) (cells (a .prices .now)) (cells (a .gains .now)) (length (a .plan .now)))
+cover-verdict c = let p = start (planned (priced (gained c))) .pre in rw (p .2, p .1) at (c .cover-verdict .ensures)
 
 -- ---- The needs
 
 plan-verdict-requires : tie.Need-plan-verdict-requires
-plan-verdict-requires c κs = search needs
+plan-verdict-requires c κs = let p = c .before .before .before .pre in (p .0, p .5)
 
 enum-told : tie.Need-enum-told
 enum-told c = search needs
@@ -75,7 +80,7 @@ unfolding listChecks
 returns c = stops _ _ _ _ (c .before .before .plan-verdict .ensures) (c .enum-told2 .given .1)
 
 prices-verdict-requires : tie.Need-prices-verdict-requires
-prices-verdict-requires c κs = search needs
+prices-verdict-requires c κs = let p = start (c .before .before) .pre in (omega (arith, p .1), p .5)
 
 enum-told-3 : tie.Need-enum-told-3
 enum-told-3 c = search needs
@@ -87,10 +92,10 @@ returns-2 : tie.Need-returns-2
 unfolding listChecks
 returns-2 c =
     let at = c .before .before in
-    plan-passed (at .before) _ (stops _ _ _ _ (at .prices-verdict .ensures) (c .enum-told4 .given .1))
+    plan-passed (at .before) _ (stops _ _ _ _ (prices-verdict at) (c .enum-told4 .given .1))
 
 gains-verdict-requires : tie.Need-gains-verdict-requires
-gains-verdict-requires c κs = search needs
+gains-verdict-requires c κs = let p = start (planned (c .before .before)) .pre in (p .5 .count, omega arith)
 
 enum-told-5 : tie.Need-enum-told-5
 enum-told-5 c = search needs
@@ -111,7 +116,8 @@ cover-verdict-requires c κs =
       pre .3,
       pre .4,
       omega arith,
-      pre .1,
+      omega (arith, pre .1),
+      pre .5,
       λ k h. price-served _ _ _ .0 (sym (priced at .prices-verdict .ensures) ∙ at .before .enum-told3 .given .1) k h .0,
       gain-served _ _ _ .0 (sym (at .gains-verdict .ensures) ∙ c .enum-told5 .given .1),
     )

@@ -11,9 +11,11 @@ use borrow.Author.Tests.{not-true, not-false}
 use Rattle.duality.specs.Lists.{cells}
 use Rattle.refusals.specs.declared.Verdict.the-variants.{Served}
 use Rattle.refusals.specs.Demand1.{firstOf}
-use Rattle.board.specs.declared.record.Auction.{Auction}
-use Rattle.board.specs.SoundTest.{soundTest}
-use Rattle.board.proofs.SoundLaw.{sound-decides}
+use Rattle.supply.specs.declared.record.Board.{Board}
+use Rattle.supply.specs.SoundTest.{soundTest}
+use Rattle.supply.specs.Shape.{Located}
+use Rattle.supply.proofs.Shaping.{sound-fits, sound-located}
+use Rattle.supply.proofs.SoundLaw.{sound-decides}
 use Rattle.matching.specs.Plans.{weightOn}
 use Rattle.matching.proofs.Plans.{cell-within, plans-within}
 use Rattle.comparison.specs.Compare.{compareBy, compareOf, smallerFirst, cellsOrder}
@@ -27,14 +29,18 @@ use Rattle.comparison.proofs.compare.Tie as tie
 -- ---- The way back from each place
 
 abbrev start : tie.After-is-sound-in → tie.Start
-start c = c .before .before .before .before .before .before .before
+start c = c .before .before .before .before .before .before .before .before
 
 -- Where the board is known to be sound
 abbrev begun : tie.Else1 → tie.Start
 begun c = start (c .before)
 
+-- Where the first place of each item is known
+abbrev started : tie.After-plans-verdict → tie.After-starts-of
+started c = c .before .before .before .before .before .before
+
 abbrev sounded : tie.After-plans-verdict → tie.Else1
-sounded c = c .before .before .before .before .before
+sounded c = started c .before
 
 -- Where no refusal is met
 abbrev judged : tie.After-enum-told → tie.After-plans-verdict
@@ -44,14 +50,14 @@ abbrev opening : tie.After-enum-told → tie.Start
 opening c = begun (sounded (judged c))
 
 abbrev passed : tie.After-plan-weight → tie.After-enum-told
-passed c = c .before .before .before .before .before
+passed c = c .before .before .before .before .before .before
 
 abbrev weighed : tie.After-plan-weight2 → tie.After-plan-weight
-weighed c = c .before .before .before .before .before
+weighed c = c .before .before .before .before .before .before
 
 -- ---- What is known at each place
 
-abbrev board : tie.Start → Auction
+abbrev board : tie.Start → Board
 board c = c .args .t1
 
 abbrev one : tie.Start → List ℕ
@@ -62,6 +68,9 @@ other c = c .args .second .now
 
 sound : (c : tie.Else1) → soundTest (board (begun c)) ≡ true
 sound c = sym (c .before .is-sound-in .ensures) ∙ not-false _ (c .if1 .left)
+
+located : (c : tie.After-starts-of) → Located (board (begun (c .before)) .items) (c .starts-of .result)
+located c = sound-located _ _ (sound-decides _ .sound (sound (c .before))) (c .starts-of .ensures)
 
 by-plans : (c : tie.Else1) →
     let s = begun c in
@@ -96,9 +105,13 @@ returns c =
     let s = start (c .before) in
     compare-spoilt (board s) (one s) (other s) (sym (c .before .is-sound-in .ensures) ∙ not-true _ (c .if1 .taken))
 
+starts-of-requires : tie.Need-starts-of-requires
+starts-of-requires c κs = sound-fits _ (sound-decides _ .sound (sound c))
+
 plans-verdict-requires : tie.Need-plans-verdict-requires
 plans-verdict-requires c κs =
-    let s = sound-decides _ .sound (sound (c .before .before .before .before)) in (s .arrived, s .items .1)
+    let at = c .before .before .before .before .before in
+    (sound-decides _ .sound (sound (at .before)) .auction .arrived, located at)
 
 enum-known-verdict : tie.Need-enum-known-verdict
 enum-known-verdict c = search needs
@@ -108,15 +121,17 @@ enum-told c = search needs
 
 plan-weight-requires : tie.Need-plan-weight-requires
 plan-weight-requires c κs =
-    let p = plans (c .before .before .before .before) in
+    let told = c .before .before .before .before .before in
+    let p = plans told in
     let e = p .first .size in
-    (omega (arith, p .sound .arrived), λ i h. omega (arith, cell-within (p .first .matches) i (omega arith), p .sound .items .1))
+    (omega (arith, p .sound .auction .arrived), located (started (judged told)), λ i h. cell-within (p .first .matches) i (omega arith))
 
 plan-weight-requires-2 : tie.Need-plan-weight-requires-2
 plan-weight-requires-2 c κs =
-    let p = plans (passed (c .before .before .before .before)) in
+    let told = passed (c .before .before .before .before .before) in
+    let p = plans told in
     let e = p .second .size in
-    (omega (arith, p .sound .arrived), λ i h. omega (arith, cell-within (p .second .matches) i (omega arith), p .sound .items .1))
+    (omega (arith, p .sound .auction .arrived), located (started (judged told)), λ i h. cell-within (p .second .matches) i (omega arith))
 
 plans-order-requires : tie.Need-plans-order-requires
 plans-order-requires c κs = let p = plans (passed (weighed c)) in p .second .size ∙ sym (p .first .size)
@@ -159,6 +174,7 @@ compare-spec =
     (tie.spec
     is-sound-in-requires
     returns
+    starts-of-requires
     plans-verdict-requires
     enum-known-verdict
     enum-told

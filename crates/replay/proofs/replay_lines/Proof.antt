@@ -3,16 +3,16 @@ use Prim.Native.Nat.{_+_, _-_, _<_}
 use native.Mathlib.Omega.{arith}
 use lib.ListN.{length}
 use borrow.Author.Needs.{needs}
-use Rattle.board.specs.Cells.{auction}
+use Rattle.supply.specs.Board.{board}
 use Rattle.replay.proofs.ReplayLines.{Replaying, replaying-starts, replaying-stops, replaying-on, replaying-ends}
 use Rattle.replay.proofs.replay_lines.Statement.{statement}
 use Rattle.replay.proofs.replay_lines.Tie as tie
 
 abbrev Inv-loop : tie.InvT-loop
-Inv-loop text start auction₀ bids₀ at₀ n₀ auction bids at n = Replaying text start auction₀ at n auction bids
+Inv-loop text start first board₀ bids₀ at₀ n₀ board bids at n = Replaying text start first board₀ at n board bids
 
 abbrev μ-loop : tie.MeasureT-loop
-μ-loop text start auction₀ bids₀ at₀ n₀ auction bids at n = length text - at
+μ-loop text start first board₀ bids₀ at₀ n₀ board bids at n = length text - at
 
 -- ---- The way back from where a line was carried out
 
@@ -23,7 +23,7 @@ abbrev carried : tie.After-settled Inv-loop μ-loop → tie.After-carry-out Inv-
 carried c = c .before .before
 
 abbrev read : tie.After-settled Inv-loop μ-loop → tie.After-line-at Inv-loop μ-loop
-read c = carried c .before .before .before .before
+read c = carried c .before .before .before .before .before
 
 abbrev head : tie.After-settled Inv-loop μ-loop → tie.At-loop Inv-loop μ-loop
 head c = read c .before .before
@@ -31,13 +31,13 @@ head c = read c .before .before
 loop-holds : tie.Need-loop-holds Inv-loop μ-loop
 loop-holds c =
     let s = c .before in
-    replaying-starts (s .args .text .now) (s .args .start) _ (s .pre .1) (s .pre .2)
+    replaying-starts (s .args .text .now) (s .args .start) (s .args .first) _ (s .pre .1) (s .pre .3)
 
 line-at-requires : tie.Need-line-at-requires Inv-loop μ-loop
 line-at-requires c κs = search needs
 
 carry-out-requires : tie.Need-carry-out-requires Inv-loop μ-loop
-carry-out-requires c κs = c .before .before .before .before .before .loop .inv .reached
+carry-out-requires c κs = c .before .before .before .before .before .before .loop .inv .reached
 
 enum-told : tie.Need-enum-told Inv-loop μ-loop
 enum-told c = search needs
@@ -52,8 +52,8 @@ onward : (c : tie.After-enum-told Inv-loop μ-loop) →
     let s = start l in
     let r = carried at .carry-out in
     let next = read at .line-at .result .next in
-    (l .loop .at < next) × Replaying (s .args .text .now) (s .args .start) (s .args .t3) next (l .loop .n + 1)
-    (auction (r .result .market) (r .last .1 .0) (r .result .state)) (r .result .bids)
+    (l .loop .at < next) × Replaying (s .args .text .now) (s .args .start) (s .args .first) (s .args .t4) next (l .loop .n + 1)
+    (board (l .loop .board .items) (r .result .market) (r .last .1 .1 .0) (r .result .state)) (r .result .bids)
 onward c =
     let at = c .before .before in
     replaying-on (head at .loop .inv) (read at .before .loop-test .taken) (read at .line-at .ensures) (carried at .carry-out .ensures) (c .enum-told .given .1)
@@ -67,7 +67,7 @@ add-n : tie.Need-add-n Inv-loop μ-loop
 add-n c =
     let l = head (c .before .before) in
     let w = l .loop .inv in
-    omega (arith, w .few, w .inside, start l .pre .0)
+    omega (arith, w .few, w .inside, start l .pre .0, start l .pre .2)
 
 loop-less : tie.Need-loop-less Inv-loop μ-loop
 loop-less c = let w = onward c in omega (arith, w .0, w .1 .inside)

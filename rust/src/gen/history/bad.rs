@@ -10,16 +10,17 @@ const BAD_WEIGHTS: [u64; 5] = [0, 1_000_001, 9_999_999, 1 << 32, u64::MAX];
 /// A call that is refused, but for an arrival without edges or a withdrawal without
 /// items.
 pub(super) fn call(rng: &mut Rng, shape: &Shape, withdrawn: &[bool]) -> Call {
-    let any = rng.range(0, shape.items + 1);
-    let gone = (1..=shape.items).filter(|&i| withdrawn[i as usize - 1]).collect::<Vec<u64>>();
+    let items = shape.counts.len() as u64;
+    let any = rng.range(0, items + 1);
+    let gone = (1..=items).filter(|&i| withdrawn[i as usize - 1]).collect::<Vec<u64>>();
     let bad_item = match rng.below(3) {
         0 => rng.pick(&STRANGE),
-        1 => rng.pick(&[0, shape.items + 1]),
+        1 => rng.pick(&[0, items + 1]),
         _ => one_of(rng, &gone).unwrap_or(any),
     };
     if rng.chance(1, 3) {
         let live = live_items(withdrawn);
-        let mut list = leaving(rng, &live, shape.items);
+        let mut list = leaving(rng, &live, items);
         spoil_items(rng, &mut list, if live.contains(&bad_item) { 0 } else { bad_item });
         return Call::Withdraw(list);
     }

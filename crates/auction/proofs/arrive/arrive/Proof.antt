@@ -8,7 +8,7 @@ use Rattle.board.specs.Limits.{maxEdges}
 use Rattle.bidding.specs.Rule.{done}
 use Rattle.auction.specs.Edges.{bufferEdges}
 use Rattle.auction.specs.Arrive.{arriveOf}
-use Rattle.board.specs.declared.record.Auction.{Auction}
+use Rattle.supply.specs.declared.record.Board.{Board}
 use Rattle.board.specs.declared.record.Edge.{Edge}
 use Rattle.auction.specs.declared.edges.EdgeBuffer.{EdgeBuffer}
 use Rattle.auction.specs.declared.arrive.Arrival.{Arrival}
@@ -16,8 +16,8 @@ use Rattle.auction.proofs.EnoughEdges.{enough-edges}
 use Rattle.board.proofs.record.Edge as E
 use Rattle.auction.proofs.edges.EdgeBuffer as R
 use Rattle.auction.proofs.edges.EdgeBuffer.Laws as R′
-use Rattle.board.proofs.record.Auction as B
-use Rattle.board.proofs.record.Auction.Laws as B′
+use Rattle.supply.proofs.record.Board as B
+use Rattle.supply.proofs.record.Board.Laws as B′
 use Rattle.auction.proofs.arrive.Arrival as D
 use Rattle.auction.proofs.arrive.Arrival.Laws as D′
 use Rattle.auction.proofs.edges.gather as gather
@@ -36,10 +36,10 @@ abbrev Edges : Lft → RattleType
 Edges κ = ShrSlice (named 0) κ E.the-row
 
 -- The first edges decide
-by-first : (b : Auction) (edges : List Edge) (r : EdgeBuffer) (d : Arrival) → bufferEdges r ≡ take maxEdges edges → done d ≡ arriveOf b (bufferEdges r) → done d ≡ arriveOf b edges
+by-first : (b : Board) (edges : List Edge) (r : EdgeBuffer) (d : Arrival) → bufferEdges r ≡ take maxEdges edges → done d ≡ arriveOf b (bufferEdges r) → done d ≡ arriveOf b edges
 by-first b edges r d e f = f ∙ (ap (arriveOf b) e ∙ sym (enough-edges b edges))
 
-module _ {M : Type 1} (𝓤 : URA M) (H : Heap 𝓤) (A : Atoms 𝓤) (W : Given 𝓤 H A) (mem : Memory → SProp 𝓤) (run : Routine → Fun 𝓤) (κ : Lft) (q : Share) (b : Auction) (w : Val) (s : RefT (List Edge)) where
+module _ {M : Type 1} (𝓤 : URA M) (H : Heap 𝓤) (A : Atoms 𝓤) (W : Given 𝓤 H A) (mem : Memory → SProp 𝓤) (run : Routine → Fun 𝓤) (κ : Lft) (q : Share) (b : Board) (w : Val) (s : RefT (List Edge)) where
   abbrev c : Clauses 𝓤 arrive.ended
   c = arrive.clauses 𝓤 H A mem run
 

@@ -1,7 +1,7 @@
 -- `arrive::arrive_buffer` meets its contract.
 use mathlib.Core.Path.{sym, _∙_}
 use borrow.Author.Tests.{not-true, not-false}
-use Rattle.board.proofs.SoundLaw.{sound-decides}
+use Rattle.supply.proofs.SoundLaw.{sound-decides}
 use Rattle.auction.proofs.CallVerdicts.{arrive-spoilt}
 use borrow.Author.Needs.{needs}
 use Rattle.auction.proofs.arrive.arrive_buffer.Statement.{statement}

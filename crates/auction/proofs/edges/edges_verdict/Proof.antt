@@ -2,22 +2,23 @@
 use Prim.Native.Nat.{_-_}
 use borrow.Author.Needs.{needs}
 use Rattle.duality.specs.Lists.{cells}
+use Rattle.supply.specs.ByItem.{goneBy}
 use Rattle.refusals.proofs.Each.{Left, each-start, each-on, each-stop, each-end}
 use Rattle.auction.specs.Edges.{edgeChecks}
 use Rattle.auction.proofs.edges.edges_verdict.Statement.{statement}
 use Rattle.auction.proofs.edges.edges_verdict.Tie as tie
 
 abbrev Inv-loop : tie.InvT-loop
-Inv-loop items weights withdrawn known count i₀ i = Left (edgeChecks known withdrawn (cells items) (cells weights)) count i
+Inv-loop known starts items weights withdrawn count i₀ i = Left (edgeChecks (known .count) (goneBy known withdrawn) (cells items) (cells weights)) count i
 
 abbrev μ-loop : tie.MeasureT-loop
-μ-loop items weights withdrawn known count i₀ i = count - i
+μ-loop known starts items weights withdrawn count i₀ i = count - i
 
 loop-holds : tie.Need-loop-holds Inv-loop μ-loop
 loop-holds c = each-start
 
 edge-verdict-requires : tie.Need-edge-verdict-requires Inv-loop μ-loop
-edge-verdict-requires c κs = search needs
+edge-verdict-requires c κs = (search needs, c .before .before .pre .1)
 
 enum-told : tie.Need-enum-told Inv-loop μ-loop
 enum-told c = search needs

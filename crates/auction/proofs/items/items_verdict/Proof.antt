@@ -3,22 +3,23 @@ use Prim.Native.Nat.{_-_}
 use lib.ListN.{length}
 use borrow.Author.Needs.{needs}
 use Rattle.duality.specs.Lists.{cells}
+use Rattle.supply.specs.ByItem.{goneBy}
 use Rattle.refusals.proofs.Each.{Left, each-start, each-on, each-stop, each-end}
 use Rattle.auction.specs.Items.{itemChecks}
 use Rattle.auction.proofs.items.items_verdict.Statement.{statement}
 use Rattle.auction.proofs.items.items_verdict.Tie as tie
 
 abbrev Inv-loop : tie.InvT-loop
-Inv-loop items withdrawn known i₀ i = Left (itemChecks known withdrawn (cells items)) (length items) i
+Inv-loop known starts items withdrawn i₀ i = Left (itemChecks (known .count) (goneBy known withdrawn) (cells items)) (length items) i
 
 abbrev μ-loop : tie.MeasureT-loop
-μ-loop items withdrawn known i₀ i = length items - i
+μ-loop known starts items withdrawn i₀ i = length items - i
 
 loop-holds : tie.Need-loop-holds Inv-loop μ-loop
 loop-holds c = each-start
 
 item-verdict-requires : tie.Need-item-verdict-requires Inv-loop μ-loop
-item-verdict-requires c κs = search needs
+item-verdict-requires c κs = (search needs, c .before .before .before .pre)
 
 enum-told : tie.Need-enum-told Inv-loop μ-loop
 enum-told c = search needs

@@ -4,10 +4,13 @@ use native.Mathlib.Omega.{arith}
 use borrow.Author.Needs.{needs}
 use Rattle.refusals.specs.declared.Verdict.the-variants.{Served}
 use Rattle.refusals.specs.Demand1.{firstOf}
-use Rattle.board.specs.declared.record.Auction.{Auction}
-use Rattle.board.specs.Sound.{Sound}
-use Rattle.board.specs.Lent.{Lists, lists, Roomy, readOutChecks}
-use Rattle.board.proofs.Lending.{lent-open, holders-few, columns-written}
+use Rattle.supply.specs.declared.record.Board.{Board}
+use Rattle.supply.specs.Sound.{Sound}
+use Rattle.board.specs.Lent.{Lists, lists}
+use Rattle.board.proofs.Lending.{holders-few}
+use Rattle.supply.specs.Lent.{Roomy, readOutChecks}
+use Rattle.supply.proofs.Shaping.{sound-fits}
+use Rattle.supply.proofs.Lending.{lent-open, plan-few, columns-written}
 use Rattle.auction.specs.declared.read_out.ReadOut.{ReadOut}
 use Rattle.auction.specs.ReadOut.{outcome}
 use Rattle.auction.proofs.CallVerdicts.{read-out-by, read-out-written}
@@ -16,14 +19,14 @@ use Rattle.auction.proofs.read_out.read_out.Tie as tie
 
 -- ---- The way back from each place, and what is known there
 
-abbrev board : tie.Start → Auction
+abbrev board : tie.Start → Board
 board c = c .args .t1
 
 abbrev lent : tie.Start → Lists
 lent c = lists (c .args .plan .now) (c .args .prices .now) (c .args .gains .now)
 
 abbrev start : tie.After-lent-verdict → tie.Start
-start c = c .before .before .before .before .before .before .before .before
+start c = c .before .before .before .before .before .before .before .before .before
 
 abbrev tested : tie.After-enum-told → tie.After-lent-verdict
 tested c = c .before .before
@@ -46,12 +49,15 @@ enum-told : tie.Need-enum-told
 enum-told c = search needs
 
 columns-of-requires : tie.Need-columns-of-requires
-columns-of-requires c κs = let s = opens c .0 in (s .items .1, holders-few s)
+columns-of-requires c κs = let s = opens c .0 in (s .auction .items .1, holders-few (s .auction))
+
+read-by-item-requires : tie.Need-read-by-item-requires
+read-by-item-requires c κs = let s = opens (c .before) .0 in (sound-fits _ s, s .auction .arrived, plan-few s (c .columns-of .ensures))
 
 write-columns-requires : tie.Need-write-columns-requires
 write-columns-requires c κs =
-    let (s, room) = opens (c .before .before .before .before) in
-    (s .arrived, omega (arith, s .items .1), room .plan, room .prices, room .gains)
+    let (s, room) = opens (c .before .before .before .before .before) in
+    (s .auction .arrived, omega (arith, s .laid .count .high), room .plan, room .prices, room .gains)
 
 same-length : tie.Need-same-length
 same-length c = search needs
@@ -65,10 +71,11 @@ same-length-3 c = search needs
 returns : tie.Need-returns
 returns c =
     let written = c .before .before .before .before .before .before in
-    let columns = written .before .before .before .before in
-    let told = columns .before in
+    let by-item = written .before .before .before .before in
+    let by-place = by-item .before in
+    let told = by-place .before in
     let first = start (tested told) in
-    ap (outcome ReadOut.Written) (written .write-columns .ensures ∙ columns-written (lent first) (opens told .0) (columns .columns-of .ensures)) ∙
+    ap (outcome ReadOut.Written) (written .write-columns .ensures ∙ columns-written (opens told .0) (by-place .columns-of .ensures) (lent first) (by-item .read-by-item .ensures)) ∙
     sym (read-out-written (board first) (lent first) (served told))
 
 returns-2 : tie.Need-returns-2
@@ -85,6 +92,7 @@ read-out-spec =
     enum-known-verdict
     enum-told
     columns-of-requires
+    read-by-item-requires
     write-columns-requires
     same-length
     same-length-2

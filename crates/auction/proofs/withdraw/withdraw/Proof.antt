@@ -1,7 +1,7 @@
 -- `withdraw::withdraw` meets its contract.
 use mathlib.Core.Path.{sym, _∙_}
 use borrow.Author.Tests.{not-true, not-false}
-use Rattle.board.proofs.SoundLaw.{sound-decides}
+use Rattle.supply.proofs.SoundLaw.{sound-decides}
 use Rattle.auction.proofs.CallVerdicts.{withdraw-spoilt}
 use borrow.Author.Needs.{needs}
 use Rattle.auction.proofs.withdraw.withdraw.Statement.{statement}

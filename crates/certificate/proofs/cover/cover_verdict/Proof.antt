@@ -8,22 +8,22 @@ use lib.ListN.{length}
 use Rattle.duality.specs.Lists.{cells}
 use Rattle.refusals.specs.declared.Refusal.the-variants.{Bare}
 use Rattle.certificate.specs.Check.{coveredTest}
-use Rattle.board.specs.Live.{liveOf}
+use Rattle.supply.specs.ByItem.{liveBy}
 use Rattle.refusals.proofs.Places.{Passed, cell-start, cell-end, cell-on, cell-stops}
 use borrow.Author.Needs.{needs}
 use Rattle.certificate.proofs.cover.cover_verdict.Statement.{statement}
 use Rattle.certificate.proofs.cover.cover_verdict.Tie as tie
 
 abbrev Inv-loop : tie.InvT-loop
-Inv-loop weights withdrawn slack prices gains i₀ i =
+Inv-loop items starts weights withdrawn slack prices gains i₀ i =
     Passed
     (λ j. Bare (suc j))
-    (λ j. coveredTest (length prices) (liveOf withdrawn weights j) (slack .p) (slack .q) (cells prices) (cells gains j))
+    (λ j. coveredTest (length prices) (liveBy items withdrawn weights j) (slack .p) (slack .q) (cells prices) (cells gains j))
     (length gains)
     i
 
 abbrev μ-loop : tie.MeasureT-loop
-μ-loop weights withdrawn slack prices gains i₀ i = length gains - i
+μ-loop items starts weights withdrawn slack prices gains i₀ i = length gains - i
 
 -- ---- The way back from each place of the loop
 
@@ -48,10 +48,10 @@ row-covered-requires : tie.Need-row-covered-requires Inv-loop μ-loop
 row-covered-requires c κs =
     let at = c .before in
     let pre = start (at .before) .pre in
-    (pre .0, pre .1, omega arith, pre .5 (at .before .loop .i) (at .loop-test .taken), pre .3, pre .4)
+    (pre .0, pre .1, omega arith, pre .6 (at .before .loop .i) (at .loop-test .taken), pre .3, pre .4, pre .5)
 
-add-t13 : tie.Need-add-t13 Inv-loop μ-loop
-add-t13 c = search needs
+add-t15 : tie.Need-add-t15 Inv-loop μ-loop
+add-t15 c = search needs
 
 returns : tie.Need-returns Inv-loop μ-loop
 returns c =
@@ -83,7 +83,7 @@ cover-verdict-spec =
     mul-row-covered
     shared-slice-read-row-covered
     row-covered-requires
-    add-t13
+    add-t15
     returns
     add-i
     loop-less

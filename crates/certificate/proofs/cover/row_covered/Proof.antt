@@ -9,19 +9,19 @@ use borrow.Author.Tests.{le-leb, lt-leb}
 use Rattle.duality.specs.Decide.{allBelow}
 use Rattle.duality.specs.Lists.{cells}
 use Rattle.duality.proofs.Decide.{all-step, all-fails}
-use Rattle.board.specs.Live.{liveOf}
+use Rattle.supply.specs.ByItem.{liveBy}
 use Rattle.certificate.specs.Check.{coveredTest}
 use borrow.Author.Needs.{needs}
 use Rattle.certificate.proofs.cover.row_covered.Statement.{statement}
 use Rattle.certificate.proofs.cover.row_covered.Tie as tie
 
 abbrev Inv-loop : tie.InvT-loop
-Inv-loop weights withdrawn slack prices bidder gain k₀ k =
+Inv-loop items starts weights withdrawn slack prices bidder gain k₀ k =
     (k ≤ length prices) ×
-    (allBelow k (λ j. leb ((slack .q - slack .p) * liveOf withdrawn weights bidder j) (gain + cells prices j)) ≡ true)
+    (allBelow k (λ j. leb ((slack .q - slack .p) * liveBy items withdrawn weights bidder j) (gain + cells prices j)) ≡ true)
 
 abbrev μ-loop : tie.MeasureT-loop
-μ-loop weights withdrawn slack prices bidder gain k₀ k = length prices - k
+μ-loop items starts weights withdrawn slack prices bidder gain k₀ k = length prices - k
 
 -- ---- The way back from each place of the loop, and what an edge asks
 
@@ -37,7 +37,7 @@ asked c = c .before .before
 asks : (c : tie.After-least Inv-loop μ-loop) (s : ℕ) →
     let at = inside c .before in
     let a = start at .args in
-    leb ((a .slack .q - a .slack .p) * liveOf (a .withdrawn .now) (a .weights .now) (a .bidder) (at .loop .k)) s ≡ leb (c .least .result .0) s
+    leb ((a .slack .q - a .slack .p) * liveBy (a .items) (a .withdrawn .now) (a .weights .now) (a .bidder) (at .loop .k)) s ≡ leb (c .least .result .0) s
 asks c s = let e = c .before .live-weight .ensures .0 in ap (λ y. leb y s) (rw e at (sym (c .least .ensures)))
 
 -- ---- The needs
@@ -61,7 +61,7 @@ shared-slice-read-if1 c = search needs
 add-if1 : tie.Need-add-if1 Inv-loop μ-loop
 add-if1 c =
     let at = inside (c .before) in
-    let h = start (at .before) .pre .5 (at .before .loop .k) (at .loop-test .taken) in
+    let h = start (at .before) .pre .6 (at .before .loop .k) (at .loop-test .taken) in
     search needs
 
 returns : tie.Need-returns Inv-loop μ-loop

@@ -1,6 +1,6 @@
 -- `answers::opened_told` meets its contract.
 use mathlib.Core.Path.{sym, ap, _∙_}
-use Rattle.board.specs.Opening.{openedTold}
+use Rattle.supply.specs.Opening.{openedTold}
 use borrow.Author.Needs.{needs}
 use Rattle.exports.proofs.answers.opened_told.Statement.{statement}
 use Rattle.exports.proofs.answers.opened_told.Tie as tie

@@ -10,14 +10,14 @@ use Rattle.walks.proofs.Walks.{Clauses, Memory, RefT, now, sliceVal, ShrSlice, 
 use Rattle.walks.proofs.Walks.{leaves, meets, here, loc, gone, twice, Ask, calls, calls-plain}
 use Rattle.bidding.specs.Rule.{done}
 use Rattle.auction.specs.Arrive.{arriveOf}
-use Rattle.board.specs.declared.record.Auction.{Auction}
+use Rattle.supply.specs.declared.record.Board.{Board}
 use Rattle.board.specs.declared.record.Edge.{Edge}
 use Rattle.auction.specs.declared.arrive.Arrival.{Arrival}
 use Rattle.exports.specs.declared.answers.Answer.{Answer}
 use Rattle.exports.specs.Answers.{answered, arrivalAnswer}
 use Rattle.board.proofs.record.Edge as E
-use Rattle.board.proofs.record.Auction as B
-use Rattle.board.proofs.record.Auction.Laws as B′
+use Rattle.supply.proofs.record.Board as B
+use Rattle.supply.proofs.record.Board.Laws as B′
 use Rattle.auction.proofs.arrive.Arrival as R
 use Rattle.auction.proofs.arrive.Arrival.Laws as R′
 use Rattle.exports.proofs.answers.Answer as D
@@ -38,11 +38,11 @@ abbrev Edges : Lft → RattleType
 Edges κ = ShrSlice (named 0) κ E.the-row
 
 -- What is answered, told
-in-numbers : (b : Auction) (edges : List Edge) (r : Arrival) (d : Answer) → done r ≡ arriveOf b edges → d ≡ arrivalAnswer r → done d ≡ answered arrivalAnswer (arriveOf b edges)
+in-numbers : (b : Board) (edges : List Edge) (r : Arrival) (d : Answer) → done r ≡ arriveOf b edges → d ≡ arrivalAnswer r → done d ≡ answered arrivalAnswer (arriveOf b edges)
 in-numbers b edges r d e f = ap done f ∙ ap (answered arrivalAnswer) e
 
 module _ {M : Type 1} (𝓤 : URA M) (H : Heap 𝓤) (A : Atoms 𝓤) (W : Given 𝓤 H A) (mem : Memory → SProp 𝓤) (run : Routine → Fun 𝓤)
-    (κ : Lft) (q : Share) (b : Auction) (w : Val) (s : RefT (List Edge)) where
+    (κ : Lft) (q : Share) (b : Board) (w : Val) (s : RefT (List Edge)) where
   abbrev c : Clauses 𝓤 arrive.ended
   c = arrive.clauses 𝓤 H A mem run
 

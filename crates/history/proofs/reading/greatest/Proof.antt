@@ -37,10 +37,10 @@ enum-told : tie.Need-enum-told
 enum-told c = search needs
 
 returns : tie.Need-returns
-returns c = let e = refused c in absurd (exact-serves (start e .args .auction) (start e .pre) (lists _ _ _) _ (e .exact .ensures) _ (c .enum-told .given .1))
+returns c = let e = refused c in absurd (exact-serves (start e .args .board) (start e .pre) (lists _ _ _) _ (e .exact .ensures) _ (c .enum-told .given .1))
 
 returns-2 : tie.Need-returns-2
-returns-2 c = let e = weighed c in exact-weight (start e .args .auction) (start e .pre) (lists _ _ _) _ (e .exact .ensures) _ (c .before .answer .given .1)
+returns-2 c = let e = weighed c in exact-weight (start e .args .board) (start e .pre) (lists _ _ _) _ (e .exact .ensures) _ (c .before .answer .given .1)
 
 pub greatest-spec : {M : Type 1} → statement M
 greatest-spec =

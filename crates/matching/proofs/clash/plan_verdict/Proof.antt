@@ -5,20 +5,25 @@ use native.Mathlib.Numerals.{add-one}
 use borrow.Author.Tests.{not-true, not-false}
 use lib.ListN.{length}
 use Rattle.duality.specs.Lists.{cells}
-use Rattle.duality.specs.Tests.{cellTest}
+use Rattle.places.specs.PlanTest.{cellTestWith}
 use Rattle.refusals.specs.declared.Refusal.the-variants.{Clash}
-use Rattle.board.specs.Live.{liveOf}
+use Rattle.supply.specs.Board.{placesIn}
+use Rattle.supply.specs.ByItem.{liveBy}
 use Rattle.refusals.proofs.Places.{Passed, cell-start, cell-end, cell-on, cell-stops}
 use borrow.Author.Needs.{needs}
 use Rattle.matching.proofs.clash.plan_verdict.Statement.{statement}
 use Rattle.matching.proofs.clash.plan_verdict.Tie as tie
 
 abbrev Inv-loop : tie.InvT-loop
-Inv-loop weights withdrawn items plan i₀ i =
-    Passed (λ j. Clash (suc j)) (λ j. cellTest items (liveOf withdrawn weights) (cells plan) j (cells plan j)) (length plan) i
+Inv-loop items starts weights withdrawn plan i₀ i =
+    Passed
+    (λ j. Clash (suc j))
+    (λ j. cellTestWith (items .count) (placesIn items) (liveBy items withdrawn weights) (cells plan) j (cells plan j))
+    (length plan)
+    i
 
 abbrev μ-loop : tie.MeasureT-loop
-μ-loop weights withdrawn items plan i₀ i = length plan - i
+μ-loop items starts weights withdrawn plan i₀ i = length plan - i
 
 loop-holds : tie.Need-loop-holds Inv-loop μ-loop
 loop-holds c = cell-start
@@ -26,8 +31,8 @@ loop-holds c = cell-start
 cell-holds-requires : tie.Need-cell-holds-requires Inv-loop μ-loop
 cell-holds-requires c κs = search needs
 
-add-t10 : tie.Need-add-t10 Inv-loop μ-loop
-add-t10 c = search needs
+add-t11 : tie.Need-add-t11 Inv-loop μ-loop
+add-t11 c = search needs
 
 returns : tie.Need-returns Inv-loop μ-loop
 returns c =
@@ -55,7 +60,7 @@ plan-verdict-spec =
     μ-loop
     loop-holds
     cell-holds-requires
-    add-t10
+    add-t11
     returns
     add-i
     loop-less

@@ -6,18 +6,18 @@ use lib.ListN.{length}
 use Rattle.duality.specs.Matching.{atCell, weightOf}
 use Rattle.duality.specs.Lists.{cells}
 use Rattle.board.specs.Limits.{wordLimit}
-use Rattle.board.specs.Live.{liveOf}
+use Rattle.supply.specs.ByItem.{liveBy}
 use Rattle.matching.proofs.Sums.{sum-next}
 use borrow.Author.Needs.{needs}
 use Rattle.matching.proofs.weight.plan_weight.Statement.{statement}
 use Rattle.matching.proofs.weight.plan_weight.Tie as tie
 
 abbrev Inv-loop : tie.InvT-loop
-Inv-loop weights withdrawn plan sum₀ i₀ sum i =
-    (i ≤ length plan) × (sum ≡ weightOf i (liveOf withdrawn weights) (cells plan)) × (sum ≤ i * wordLimit)
+Inv-loop items starts weights withdrawn plan sum₀ i₀ sum i =
+    (i ≤ length plan) × (sum ≡ weightOf i (liveBy items withdrawn weights) (cells plan)) × (sum ≤ i * wordLimit)
 
 abbrev μ-loop : tie.MeasureT-loop
-μ-loop weights withdrawn plan sum₀ i₀ sum i = length plan - i
+μ-loop items starts weights withdrawn plan sum₀ i₀ sum i = length plan - i
 
 -- ---- The way back from each place of the loop
 
@@ -41,7 +41,7 @@ shared-slice-read-cell-weight c = search needs
 cell-weight-requires : tie.Need-cell-weight-requires Inv-loop μ-loop
 cell-weight-requires c κs =
     let at = c .before in
-    (omega arith, start (at .before) .pre .1 (at .before .loop .i) (at .loop-test .taken))
+    (omega arith, start (at .before) .pre .2 (at .before .loop .i) (at .loop-test .taken), start (at .before) .pre .1)
 
 add-sum : tie.Need-add-sum Inv-loop μ-loop
 add-sum c = let h = c .before .cell-weight .ensures .1 in search needs
@@ -58,7 +58,7 @@ loop-again c =
     let a = start head .args in
     let at = head .loop in
     let cell = c .before .cell-weight .ensures in
-    let next = sum-next (λ i. atCell (liveOf (a .withdrawn .now) (a .weights .now) i) (cells (a .plan .now) i)) (at .i) _ _ (at .inv .1) (cell .0) in
+    let next = sum-next (λ i. atCell (liveBy (a .items) (a .withdrawn .now) (a .weights .now) i) (cells (a .plan .now) i)) (at .i) _ _ (at .inv .1) (cell .0) in
     (omega arith, next, omega (arith, cell .1))
 
 returns : tie.Need-returns Inv-loop μ-loop

@@ -7,7 +7,7 @@ use Rattle.page.proofs.writing.weight_held.Statement.{statement}
 use Rattle.page.proofs.writing.weight_held.Tie as tie
 
 returns : tie.Need-returns
-returns c = let a = c .before .args in held-none (a .weights .now) (a .i) (a .item) (c .if1 .taken)
+returns c = let a = c .before .args in held-none (a .weights .now) (a .i) (a .place) (c .if1 .taken)
 
 mul-weight-in : tie.Need-mul-weight-in
 mul-weight-in c = let h = c .before .pre in omega (arith, h .1)
@@ -28,7 +28,7 @@ weight-in-requires : tie.Need-weight-in-requires
 weight-in-requires c κs = search needs
 
 returns-2 : tie.Need-returns-2
-returns-2 c = let e = c .before .before in let s = e .before in let a = s .args in c .weight-in .ensures .0 ∙ held-some (a .weights .now) (a .i) (a .item) (e .if1 .left) (s .pre .2)
+returns-2 c = let e = c .before .before in let s = e .before in let a = s .args in c .weight-in .ensures .0 ∙ held-some (a .weights .now) (a .i) (a .place) (e .if1 .left) (s .pre .2)
 
 pub weight-held-spec : {M : Type 1} → statement M
 weight-held-spec = tie.close (tie.spec returns mul-weight-in sub-weight-in add-weight-in mul-weight-in-2 element-copy-out-weight-in weight-in-requires returns-2)

@@ -17,8 +17,8 @@ called c = c .before .before .before .before .before
 enum-known-answer : tie.Need-enum-known-answer
 enum-known-answer c = search needs
 
-add-t15 : tie.Need-add-t15
-add-t15 c =
+add-t16 : tie.Need-add-t16
+add-t16 c =
     let d = called c in
     let s = d .before .before in
     omega (arith, bids-fit (arrival-reached (bufferEdges (s .args .edges)) (d .arrive-in .ensures) (c .before .answer .given .1) (s .pre)))
@@ -41,4 +41,4 @@ returns-2 c =
 pub carry-arrival-spec : {M : Type 1} → statement M
 carry-arrival-spec =
     tie.close
-    (tie.spec arrive-in-requires enum-known-answer add-t15 enum-known-answer-2 returns returns-2)
+    (tie.spec arrive-in-requires enum-known-answer add-t16 enum-known-answer-2 returns returns-2)

@@ -5,8 +5,8 @@ use native.Mathlib.Omega.{arith}
 use lib.ListN.{take}
 use Rattle.board.specs.Limits.{maxEdges}
 use Rattle.replay.specs.Replay.{finished, afterArrival, afterWithdrawal}
-use Rattle.board.specs.declared.record.Auction.{Auction}
-use Rattle.board.specs.Cells.{auction}
+use Rattle.supply.specs.declared.record.Board.{Board}
+use Rattle.supply.specs.Board.{board}
 use Rattle.auction.specs.Arrive.{arriveOf}
 use Rattle.auction.specs.Withdraw.{withdrawOf}
 use Rattle.replay.proofs.ReplayForms.{carries-arrival, carries-withdrawal, carries-none}
@@ -14,8 +14,8 @@ use borrow.Author.Needs.{needs}
 use Rattle.replay.proofs.lines.carry_out.Statement.{statement}
 use Rattle.replay.proofs.lines.carry_out.Tie as tie
 
-abbrev board : tie.Start → Auction
-board c = auction (c .args .market) (c .args .weights .now) (c .args .state)
+abbrev here : tie.Start → Board
+here c = board (c .args .items) (c .args .market) (c .args .weights .now) (c .args .state)
 
 is-record-requires : tie.Need-is-record-requires
 is-record-requires c κs = search needs
@@ -30,10 +30,10 @@ returns : tie.Need-returns
 returns c =
     let k = c .before .before .before .before .before in
     let s = k .before .before in
-    let b = board s in
+    let b = here s in
     c .carry-arrival .ensures
     ∙ (ap (λ edges. afterArrival finished (s .args .n) (s .args .bids) (arriveOf b edges)) (c .before .before .edges-of .ensures)
-    ∙ sym (carries-arrival (s .args .t5) finished (s .args .n) b (s .args .bids) (sym (k .before .is-record .ensures) ∙ k .if1 .taken)))
+    ∙ sym (carries-arrival (s .args .t6) finished (s .args .n) b (s .args .bids) (sym (k .before .is-record .ensures) ∙ k .if1 .taken)))
 
 is-record-requires-2 : tie.Need-is-record-requires-2
 is-record-requires-2 c κs = search needs
@@ -41,14 +41,14 @@ is-record-requires-2 c κs = search needs
 enough-requires : tie.Need-enough-requires
 enough-requires c κs = search needs
 
-sub-items : tie.Need-sub-items
-sub-items c = search needs
+sub-list : tie.Need-sub-list
+sub-list c = search needs
 
-part-items-start : tie.Need-part-items-start
-part-items-start c = search needs
+part-list-start : tie.Need-part-list-start
+part-list-start c = search needs
 
-part-items-end : tie.Need-part-items-end
-part-items-end c = let e = c .enough .ensures in search needs
+part-list-end : tie.Need-part-list-end
+part-list-end c = let e = c .enough .ensures in search needs
 
 carry-withdrawal-requires : tie.Need-carry-withdrawal-requires
 carry-withdrawal-requires c κs = search needs
@@ -58,18 +58,18 @@ returns-2 c =
     let sized = c .before .before .before in
     let k = sized .before .before .before .before in
     let s = k .before .before .before .before in
-    let b = board s in
-    let first : sized .enough .result - 0 ≡ min (s .args .t5 .count) maxEdges = omega (arith, sized .enough .ensures) in
+    let b = here s in
+    let first : sized .enough .result - 0 ≡ min (s .args .t6 .count) maxEdges = omega (arith, sized .enough .ensures) in
     c .carry-withdrawal .ensures
-    ∙ (ap (λ items. afterWithdrawal finished (s .args .n) (s .args .bids) (withdrawOf b items)) (ap (λ m. take m (s .args .t5 .numbers)) first)
-    ∙ sym (carries-withdrawal (s .args .t5) finished (s .args .n) b (s .args .bids) (sym (k .before .is-record2 .ensures) ∙ k .if2 .taken)))
+    ∙ (ap (λ list. afterWithdrawal finished (s .args .n) (s .args .bids) (withdrawOf b list)) (ap (λ m. take m (s .args .t6 .numbers)) first)
+    ∙ sym (carries-withdrawal (s .args .t6) finished (s .args .n) b (s .args .bids) (sym (k .before .is-record2 .ensures) ∙ k .if2 .taken)))
 
 returns-3 : tie.Need-returns-3
 returns-3 c =
     let k = c .before .before in
     let s = k .before .before in
-    let b = board s in
-    sym (carries-none (s .args .t5) finished (s .args .n) b (s .args .bids) (sym (k .before .is-record .ensures) ∙ k .if1 .left) (sym (c .before .is-record2 .ensures) ∙ c .if2 .left))
+    let b = here s in
+    sym (carries-none (s .args .t6) finished (s .args .n) b (s .args .bids) (sym (k .before .is-record .ensures) ∙ k .if1 .left) (sym (c .before .is-record2 .ensures) ∙ c .if2 .left))
 
 pub carry-out-spec : {M : Type 1} → statement M
 carry-out-spec =
@@ -81,9 +81,9 @@ carry-out-spec =
     returns
     is-record-requires-2
     enough-requires
-    sub-items
-    part-items-start
-    part-items-end
+    sub-list
+    part-list-start
+    part-list-end
     carry-withdrawal-requires
     returns-2
     returns-3)

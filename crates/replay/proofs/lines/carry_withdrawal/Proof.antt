@@ -16,11 +16,11 @@ called c = c .before .before .before .before .before
 enum-known-answer : tie.Need-enum-known-answer
 enum-known-answer c = search needs
 
-add-t14 : tie.Need-add-t14
-add-t14 c =
+add-t15 : tie.Need-add-t15
+add-t15 c =
     let d = called c in
     let s = d .before .before in
-    omega (arith, bids-fit (withdrawal-reached (s .args .items .now) (d .withdraw-in .ensures) (c .before .answer .given .1) (s .pre)))
+    omega (arith, bids-fit (withdrawal-reached (s .args .list .now) (d .withdraw-in .ensures) (c .before .answer .given .1) (s .pre)))
 
 enum-known-answer-2 : tie.Need-enum-known-answer-2
 enum-known-answer-2 c = search needs
@@ -43,7 +43,7 @@ carry-withdrawal-spec =
     (tie.spec
     withdraw-in-requires
     enum-known-answer
-    add-t14
+    add-t15
     enum-known-answer-2
     returns
     returns-2)
