@@ -1,5 +1,5 @@
 // The exact call.
-use crate::live::live_weights;
+use crate::live::keep_live;
 use crate::solver::solve;
 use board::lent::write_columns;
 use board::units::Pence;
@@ -18,7 +18,7 @@ pub enum Greatest {
 }
 
 // Writes a plan of greatest weight on the board's live edges, and prices and gains whose sum shows it, into three lent lists: solved by place, read by item.
-pub fn exact(board: Board, plan: &mut [u64], prices: &mut [u64], gains: &mut [u64]) -> Greatest
+pub fn exact(mut board: Board, plan: &mut [u64], prices: &mut [u64], gains: &mut [u64]) -> Greatest
     ensures { λ r. ⌜ ExactOutcome board (lists (now (plan .entry)) (now (prices .entry)) (now (gains .entry))) r (lists (now (plan .exit)) (now (prices .exit)) (now (gains .exit))) ⌝ }
 {
     let items = board.items;
@@ -35,10 +35,9 @@ pub fn exact(board: Board, plan: &mut [u64], prices: &mut [u64], gains: &mut [u6
     );
     let Verdict::Refused(refusal) = verdict else {
         let bidders = market.arrived as usize;
-        let weights = board.weights;
         let withdrawn = market.withdrawn;
-        let live = live_weights(weights, withdrawn);
-        let solution = solve(&live, bidders);
+        keep_live(&mut board.weights, withdrawn);
+        let solution = solve(&board.weights, bidders);
         let by_place = solution.columns;
         let columns = read_by_item(by_place, items, bidders);
         write_columns(columns, bidders, items.count as usize, plan, prices, gains);

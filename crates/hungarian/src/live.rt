@@ -20,17 +20,16 @@ fn clear_item(weights: &mut [u32; WEIGHTS], item: usize)
     }
 }
 
-// The weights of the live edges: at withdrawn items there are none.
-pub(crate) fn live_weights(weights: [u32; WEIGHTS], withdrawn: [u8; ITEMS]) -> [u32; WEIGHTS]
-    ensures { λ r. ⌜ LiveTo maxItems weights withdrawn r ⌝ }
+// Only live edges are left: at withdrawn items there are none.
+pub(crate) fn keep_live(weights: &mut [u32; WEIGHTS], withdrawn: [u8; ITEMS])
+    requires { ⌜ length (now weights) ≡ maxBidders * maxItems ⌝ }
+    ensures { λ _. ⌜ LiveTo maxItems (now (weights .entry)) withdrawn (now (weights .exit)) ⌝ }
 {
-    let mut live = weights;
     let mut k: usize = 0;
     while k < ITEMS {
         if withdrawn[k] != 0 {
-            clear_item(&mut live, k);
+            clear_item(weights, k);
         }
         k += 1;
     }
-    live
 }

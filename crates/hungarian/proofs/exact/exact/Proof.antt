@@ -49,17 +49,20 @@ enum-known-verdict c = search needs
 enum-told : tie.Need-enum-told
 enum-told c = search needs
 
-live-weights-requires : tie.Need-live-weights-requires
-live-weights-requires c κs = search needs
+keep-live-requires : tie.Need-keep-live-requires
+keep-live-requires c κs = search needs
 
--- Where the live edges are solved
-abbrev solving : tie.After-live → tie.After-enum-told
-solving c = c .before .before .before .before
+-- Where only live edges are left
+abbrev kept : tie.After-solve-arg → tie.After-keep-live
+kept c = c .before .before
+
+abbrev solving : tie.After-solve-arg → tie.After-enum-told
+solving c = kept c .before .before .before
 
 solve-requires : tie.Need-solve-requires
 solve-requires c κs =
     let s = opens (solving c) .0 in
-    (live-light (auctionOf (board (start (tested (solving c))))) (s .auction) _ (c .before .live-weights .ensures), s .auction .arrived)
+    (live-light (auctionOf (board (start (tested (solving c))))) (s .auction) _ (kept c .keep-live .ensures), s .auction .arrived)
 
 -- Where what is solved is read by item
 abbrev solve : tie.After-by-place → tie.After-solve
@@ -71,7 +74,7 @@ read-by-item-requires c κs =
     let live = solution .before in
     let b = board (start (tested (solving live))) in
     let s = opens (solving live) .0 in
-    (sound-fits b s, s .auction .arrived, solved-few b _ (solution .solve .result .columns) _ s (live .before .live-weights .ensures) (solution .solve .ensures))
+    (sound-fits b s, s .auction .arrived, solved-few b _ (solution .solve .result .columns) _ s (kept live .keep-live .ensures) (solution .solve .ensures))
 
 write-columns-requires : tie.Need-write-columns-requires
 write-columns-requires c κs =
@@ -100,7 +103,7 @@ returns c =
     let (s, room) = opens told in
     exact-shown b l _ _ (served told)
     (subst (λ after. Shows b l (Greatest.Weight (solution .solve .result .weight)) after) (sym (written .write-columns .ensures))
-    (shows b _ _ _ s (live .before .live-weights .ensures) (solution .solve .ensures) l _ room (read .read-by-item .ensures)))
+    (shows b _ _ _ s (kept live .keep-live .ensures) (solution .solve .ensures) l _ room (read .read-by-item .ensures)))
 
 returns-2 : tie.Need-returns-2
 returns-2 c =
@@ -115,7 +118,7 @@ exact-spec =
     lent-verdict-requires
     enum-known-verdict
     enum-told
-    live-weights-requires
+    keep-live-requires
     solve-requires
     read-by-item-requires
     write-columns-requires

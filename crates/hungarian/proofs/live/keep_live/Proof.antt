@@ -1,4 +1,4 @@
--- `live_weights` meets its contract: item by item.
+-- `keep_live` meets its contract: item by item.
 use mathlib.Core.Logic.{⊎-elim}
 use Prim.Native.Nat.{_-_, _≤_}
 use native.Mathlib.Omega.{arith}
@@ -7,14 +7,14 @@ use Rattle.board.specs.Limits.{maxItems}
 use Rattle.board.proofs.Tests.{flag-on, flag-off}
 use Rattle.hungarian.specs.LiveWeights.{LiveTo}
 use Rattle.hungarian.proofs.LiveWeights.{live-none, live-kept, live-cleared, live-all}
-use Rattle.hungarian.proofs.live.live_weights.Statement.{statement}
-use Rattle.hungarian.proofs.live.live_weights.Tie as tie
+use Rattle.hungarian.proofs.live.keep_live.Statement.{statement}
+use Rattle.hungarian.proofs.live.keep_live.Tie as tie
 
 abbrev Inv-loop : tie.InvT-loop
-Inv-loop withdrawn live₀ k₀ live k = (k ≤ maxItems) × LiveTo k live₀ withdrawn live
+Inv-loop weights₀ withdrawn k₀ weights k = (k ≤ maxItems) × LiveTo k weights₀ withdrawn weights
 
 abbrev μ-loop : tie.MeasureT-loop
-μ-loop withdrawn live₀ k₀ live k = maxItems - k
+μ-loop weights₀ withdrawn k₀ weights k = maxItems - k
 
 -- src/live.rt:29:5
 loop-holds : tie.Need-loop-holds Inv-loop μ-loop
@@ -52,8 +52,8 @@ loop-again c =
 returns : tie.Need-returns Inv-loop μ-loop
 returns c = live-all _ _ _ _ (c .before .loop .inv .0) (omega arith) (c .before .loop .inv .1)
 
-pub live-weights-spec : {M : Type 1} → statement M
-live-weights-spec =
+pub keep-live-spec : {M : Type 1} → statement M
+keep-live-spec =
     tie.close
     (tie.spec
     Inv-loop
