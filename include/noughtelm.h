@@ -32,8 +32,8 @@
  *                                                          kettle gone, without entry for this batch, or
  *                                                          named by an earlier batch": by as many as
  *                                                          it has places
- *   11      "price"    "kettle, or k + batch for a gain"  "above 1,000,000,000, or a withdrawn kettle's
- *                                                          not 0"
+ *   11      "price"    "kettle, or k + batch for a gain"  "above 2,000,000,000, or a withdrawn kettle's
+ *                                                          not 0": the limit is document 02's, R-7
  *   12      "bare"     "batch"                            "a live entry not covered"
  *   13      "spoilt"   0                                  "the board handed in is not sound"
  *   14      "line"     "line"                             "text not of the form below"
@@ -72,7 +72,7 @@
 #define NOUGHTELM_MAX_WEIGHT 1000000
 #define NOUGHTELM_MAX_Q 1000
 /* The most that a price or a gain may be that is handed to the check. */
-#define NOUGHTELM_MAX_PRICE 1000000000
+#define NOUGHTELM_MAX_PRICE 2000000000
 /* The most bytes of a text, and of what is printed of one: a list of so many is never short. */
 #define NOUGHTELM_MAX_TEXT 65536
 #define NOUGHTELM_MAX_OUTPUT 12610

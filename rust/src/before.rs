@@ -1,7 +1,7 @@
-//! The auction as it was before R-6 of document 02, an item with one place and one price,
-//! and what R-6 says of it: a board of places is the board of before in which every place is
-//! an item, with the edges of its item. Only calls that are served are made here. Nothing
-//! is taken from the model's rule.
+//! The auction without the places of R-6 of document 02, an item with one place and one
+//! price, as it was before, but with the bid of R-7; and what R-6 says of it: a board of
+//! places is the board of before in which every place is an item, with the edges of its
+//! item. Only calls that are served are made here. Nothing is taken from the model's rule.
 
 use crate::gen::history::{Call, History};
 use crate::model::auction::{ones, Edge};
@@ -60,12 +60,13 @@ impl Before {
         Some(holder)
     }
 
-    /// Bids from this bidder on until nobody is displaced, or nothing is open.
+    /// Bids from this bidder on until nobody is displaced, or nothing is open. What a bid
+    /// comes to, gain and price, is (q + p) times the weight.
     fn bid(&mut self, mut bidder: usize) -> u64 {
         for bids in 0.. {
             let Some((item, weight)) = self.choice(bidder) else { return bids };
-            self.gain[bidder] = self.q * weight - self.price[item];
-            self.price[item] += self.p * weight;
+            self.gain[bidder] = self.second(bidder, item);
+            self.price[item] = (self.q + self.p) * weight - self.gain[bidder];
             let Some(displaced) = self.holder[item].replace(bidder) else { return bids + 1 };
             self.gain[displaced] = 0;
             bidder = displaced;
@@ -73,19 +74,31 @@ impl Before {
         unreachable!()
     }
 
+    fn open_edges(&self, bidder: usize) -> impl Iterator<Item = (usize, u64)> + '_ {
+        let live = self.edges[bidder].iter().copied().filter(|(item, _)| !self.withdrawn[*item]);
+        live.filter(|(item, weight)| self.price[*item] < (self.q - self.p) * weight)
+    }
+
+    fn utility(&self, (item, weight): (usize, u64)) -> u64 {
+        self.q * weight - self.price[item]
+    }
+
     /// The greatest utility; of equal ones the larger weight, then the lower item.
     fn choice(&self, bidder: usize) -> Option<(usize, u64)> {
-        let live = self.edges[bidder].iter().filter(|(item, _)| !self.withdrawn[*item]);
-        let open = live.filter(|(item, weight)| self.price[*item] < (self.q - self.p) * weight);
-        let utility = |(item, weight): (usize, u64)| self.q * weight - self.price[item];
-        open.copied().reduce(|best, next| {
-            let better = (utility(next), next.1) > (utility(best), best.1);
+        self.open_edges(bidder).reduce(|best, next| {
+            let better = (self.utility(next), next.1) > (self.utility(best), best.1);
             if better {
                 next
             } else {
                 best
             }
         })
+    }
+
+    /// The greatest utility at another item, 0 for none.
+    fn second(&self, bidder: usize, taken: usize) -> u64 {
+        let others = self.open_edges(bidder).filter(|(item, _)| *item != taken);
+        others.map(|edge| self.utility(edge)).max().unwrap_or(0)
     }
 
     /// The numbers of a board of this auction are those of a record, place by place.

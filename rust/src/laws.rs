@@ -37,6 +37,18 @@ fn sums_agree(b: &ffi::Board) -> Law {
     require(prices + gains == expected, || format!("{prices} + {gains} is not {expected}"))
 }
 
+/// "placed pairs still sum to (q + p) × w" (document 02, R-7), at the place that is held.
+fn pairs_sum(b: &ffi::Board) -> Law {
+    for place in (0..MAX_PLACES).filter(|&place| b.holder[place] != 0) {
+        let bidder = b.holder[place] as usize - 1;
+        let (gain, price) = (b.gain[bidder].0, b.price[place].0);
+        let expected = (b.slack.q + b.slack.p) * weight_at(b, bidder, place);
+        let told = || format!("bidder {}: {gain} + {price} is not {expected}", bidder + 1);
+        require(gain + price == expected, told)?;
+    }
+    Ok(())
+}
+
 fn share_holds(b: &ffi::Board) -> Law {
     let (own, greatest) = (weight(b), greatest_of(b.places as usize, &live_rows(b)));
     let share = own * (b.slack.q + b.slack.p) >= (b.slack.q - b.slack.p) * greatest;
@@ -78,15 +90,14 @@ pub fn require(holds: bool, told: impl Fn() -> String) -> Law {
 
 /// "a check of read-out prices may total less than q + p times the worth, never more"
 /// (document 02, R-6), not less than q - p times it, and nothing less where every item has
-/// one place. It is asked where no number is above what a check takes.
+/// one place. Since R-7 no price or gain of a sound board is above what a check takes.
 fn read_out_is_checked(b: &ffi::Board) -> Law {
     let (bidders, items) = (b.arrived as usize, b.items.count as usize);
     let [mut plan, mut prices, mut gains] = [bidders, items, bidders].map(|cells| vec![0; cells]);
     let told = ffi::read_out(*b, &mut plan, &mut prices, &mut gains);
     require(told.number == 0, || format!("read out: {told:?}"))?;
-    if prices.iter().chain(&gains).any(|&cell| cell > MAX_PRICE) {
-        return Ok(());
-    }
+    let most = prices.iter().chain(&gains).max();
+    require(most.is_none_or(|&most| most <= MAX_PRICE), || format!("read out: {most:?}"))?;
     let ffi::Slack { p, q } = b.slack;
     let totals = ffi::check(*b, &plan, &prices, &gains, p, q);
     let most = (q + p) * weight(b);
@@ -96,8 +107,9 @@ fn read_out_is_checked(b: &ffi::Board) -> Law {
     require(holds && within, || format!("a check of the read-out: {totals:?}, at most {most}"))
 }
 
-/// The sum, the share, nobody left out, and the check of what is read out.
+/// Pairs and their sum, the share, nobody left out, and the check of what is read out.
 pub fn on_board(b: &ffi::Board) -> Law {
+    pairs_sum(b)?;
     sums_agree(b)?;
     share_holds(b)?;
     nobody_is_left_out(b)?;

@@ -1,4 +1,4 @@
-//! A second implementation of document 01 and of of document 02, for
+//! A second implementation of document 01 and of of document 02, for
 //! comparison with the proved one.
 //!
 //! `model` says what every call answers, simply and slowly; `page` writes and
@@ -6,9 +6,11 @@
 //! yardstick for speed; `gen` makes cases; `ffi` calls the proved one; `both` calls
 //! the proved one and the model and compares; `laws` are those of every sound
 //! board; `ties` bids one by one and counts what stood equal; `orders` withdraws
-//! so, in R-3's order and in others; `plans` says what R-4 asks of two plans otherwise
-//! than the model; `slides` bids in the steps of R-5; `before` is the auction of before
-//! R-6, without places; `program` runs the built program; `trial` runs the command ./plan.
+//! so, in R-3's order and in others; `raises` is what such a bid comes to, as R-7 has it
+//! and otherwise; `wars` are histories on which bids are counted, before R-7 and since;
+//! `plans` says what R-4 asks of two plans otherwise than the model; `slides` bids in the
+//! steps of R-5; `before` is the auction without the places of R-6; `program` runs the
+//! built program; `trial` runs the command ./plan.
 
 pub mod before;
 pub mod both;
@@ -21,7 +23,9 @@ pub mod orders;
 pub mod page;
 pub mod plans;
 pub mod program;
+pub mod raises;
 pub mod rng;
 pub mod slides;
 pub mod ties;
 pub mod trial;
+pub mod wars;

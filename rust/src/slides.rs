@@ -3,6 +3,10 @@
 //!     While there is v in V unallocated, util(uv) > ε · w(uv),
 //!     v bids y_u + ε · w(uv) and allocated max util u.
 //!
+//! Since R-7 the bid is higher by the lead over the second choice: source document 003 adds
+//! "the second best object value" less the best one, of costs, where utilities are compared
+//! here.
+//!
 //! Left are the places u of the items, right the bidders v (document 01: kettles and
 //! batches), all by their numbers from 1; an edge uv (an entry), one at each place of its
 //! item, has the weight w(uv) (its worth). Money is in pence and fractions of a penny;
@@ -26,6 +30,13 @@ pub struct Offer {
     pub place: Place,
     pub weight: Fraction,
     pub utility: Fraction,
+}
+
+/// The offer that v picks, and the second utility.
+#[derive(Clone, Copy, Debug, PartialEq, Eq)]
+pub struct Picked {
+    pub offer: Offer,
+    pub second: Fraction,
 }
 
 /// The auction (document 01: the board).
@@ -56,24 +67,32 @@ impl Slides {
     /// Pick: max util u. "of two kettles with equal utility a batch takes the one with
     /// the larger worth, and only then the lower number" (document 02, R-1); "the lower
     /// place breaks a last tie" (R-6).
-    pub fn pick(open: &[Offer]) -> Option<Offer> {
+    pub fn pick(open: &[Offer]) -> Option<Picked> {
         let greatest = open.iter().map(|uv| uv.utility).max()?;
         let equal = open.iter().filter(|uv| uv.utility == greatest);
         let largest = equal.clone().map(|uv| uv.weight).max()?;
-        equal.filter(|uv| uv.weight == largest).min_by_key(|uv| uv.place).copied()
+        let offer = *equal.filter(|uv| uv.weight == largest).min_by_key(|uv| uv.place)?;
+        Some(Picked { offer, second: Slides::second(open, offer.place) })
     }
 
-    /// Price: y_u becomes y_u + ε · w(uv).
-    pub fn price(&mut self, picked: Offer) {
-        let price = self.prices[&picked.place] + self.epsilon * picked.weight;
-        self.prices.insert(picked.place, price);
+    /// "the greatest utility of any other open place of that batch, 0 if none" (R-7).
+    fn second(open: &[Offer], place: Place) -> Fraction {
+        let others = open.iter().filter(|uv| uv.place != place);
+        others.map(|uv| uv.utility).max().unwrap_or(Fraction::whole(0))
     }
 
-    /// Hand over: u is allocated to v, whose gain is the utility picked. The bidder that
-    /// had u "is displaced, its gain becomes 0, and it bids next" (document 01).
-    pub fn hand_over(&mut self, v: u64, picked: Offer) {
-        let displaced = self.allocated.insert(picked.place, v);
-        self.gains.insert(v, picked.utility);
+    /// Price: y_u becomes y_u + ε · w(uv), and "the lead" more (R-7).
+    pub fn price(&mut self, Picked { offer, second }: Picked) {
+        let lead = offer.utility - second;
+        let price = self.prices[&offer.place] + self.epsilon * offer.weight + lead;
+        self.prices.insert(offer.place, price);
+    }
+
+    /// Hand over: u is allocated to v, whose gain is "that second utility" (R-7). The bidder
+    /// that had u "is displaced, its gain becomes 0, and it bids next" (document 01).
+    pub fn hand_over(&mut self, v: u64, Picked { offer, second }: Picked) {
+        let displaced = self.allocated.insert(offer.place, v);
+        self.gains.insert(v, second);
         if let Some(displaced) = displaced {
             self.gains.remove(&displaced);
             self.waiting.push_front(displaced);

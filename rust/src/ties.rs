@@ -1,10 +1,11 @@
 //! Chains of bids, one bid after another, by any rule of choice, and what stood
 //! equal when a bidder chose. So the ties of a history are counted, and another
-//! rule can be seen to give something else.
+//! rule can be seen to give something else. What a bid comes to is `raises`'.
 
 use crate::gen::history::{Call, History};
 use crate::model::auction::*;
 use crate::orders::Order;
+use crate::raises::Raise;
 use std::ops::AddAssign;
 
 /// A live edge of a bidder that bids, at a place of its item: "a batch compares places"
@@ -121,6 +122,7 @@ pub struct Walk {
     /// Who bid, bid by bid, from 0.
     pub bidders: Vec<usize>,
     rule: Rule,
+    raise: Raise,
 }
 
 impl Walk {
@@ -129,7 +131,8 @@ impl Walk {
     }
 
     pub fn on(auction: Auction, rule: Rule) -> Walk {
-        Walk { auction, ties: Ties::default(), bidders: Vec::new(), rule }
+        let (ties, bidders) = (Ties::default(), Vec::new());
+        Walk { auction, ties, bidders, rule, raise: Raise::Lead }
     }
 
     /// The call's bids.
@@ -153,9 +156,8 @@ impl Walk {
         }
     }
 
-    /// One bid, if an edge is open, and the bidder that it displaces, if any. "Its gain
-    /// becomes that utility. The kettle's price then rises by p × w. The batch that held
-    /// the kettle, if any, is displaced, its gain becomes 0, and it bids next."
+    /// One bid, if an edge is open, and the bidder that it displaces, if any. "The batch that
+    /// held the kettle, if any, is displaced, its gain becomes 0, and it bids next."
     pub fn bid(&mut self, bidder: usize) -> Option<usize> {
         let offers = offers(&self.auction, bidder);
         let taken = (self.rule)(&offers)?;
@@ -163,9 +165,11 @@ impl Walk {
         self.bidders.push(bidder);
         let displaced = self.auction.holder(taken.place);
         self.displace(displaced);
+        let least = self.auction.slack.p * taken.weight;
+        let (gain, rise) = self.raise.of(&offers, taken, least as i64);
         self.auction.bidders[bidder].held = Some(taken.place);
-        self.auction.bidders[bidder].gain = taken.utility as u64;
-        *self.auction.price_mut(taken.place) += self.auction.slack.p * taken.weight;
+        self.auction.bidders[bidder].gain = gain as u64;
+        *self.auction.price_mut(taken.place) += rise as u64;
         displaced
     }
 
@@ -179,7 +183,12 @@ impl Walk {
 
 /// The history's end by a rule: the auction, and what its bids met.
 pub fn walk(history: &History, rule: Rule) -> Walk {
-    let mut walk = Walk::open(history, rule);
+    walk_raising(history, rule, Raise::Lead)
+}
+
+/// The same where bids come to this.
+pub fn walk_raising(history: &History, rule: Rule, raise: Raise) -> Walk {
+    let mut walk = Walk { raise, ..Walk::open(history, rule) };
     for call in &history.calls {
         walk.call(call);
     }

@@ -1,5 +1,5 @@
-//! The cases that document 01 prints, by calls and by texts, the example of R-1 in
-//! document 02, and cases of R-3, R-4 and R-6.
+//! The cases that document 01 prints, worked out afresh by the bid of R-7 in document 02,
+//! by calls and by texts, the example of R-1, and cases of R-3, R-4, R-6 and R-7.
 
 use noughtelm_tests::model::auction::*;
 use noughtelm_tests::model::check::{check, Claim, Totals};
@@ -29,21 +29,25 @@ fn assert_state(auction: &Auction, matching: &[u64], weight: u64, sum: u64, grea
     assert_eq!(solve(&auction.live_weights(), &auction.counts()).weight, greatest);
 }
 
+/// The first finds 1,000 and 600: the price rises by the lead of 400 and by 100. The second
+/// finds 400 and nothing else, so that it rises by 400 and by 90. The first then finds 10,
+/// which is not open, and 600.
 fn case_1() -> Auction {
     let mut auction = open(2, 1, 10).unwrap();
     assert_eq!(arrive(&mut auction, &[(1, 100), (2, 60)]), Ok(1));
-    assert_eq!(arrive(&mut auction, &[(1, 90)]), Ok(6));
+    assert_eq!((auction.prices(), auction.gains()), (vec![500, 0], vec![600]));
+    assert_eq!(arrive(&mut auction, &[(1, 90)]), Ok(2));
     auction
 }
 
 #[test]
 fn case_1_by_text_and_by_call() {
     let text = b"K\t2\t1\t10\nA\t1\t100\t2\t60\nA\t1\t90\n";
-    let printed = b"P\t1\t2\t600\nP\t2\t1\t420\nY\t1\t570\nY\t2\t60\nT\t150\t1650\t7\nE\t150\n";
+    let printed = b"P\t1\t2\t0\nP\t2\t1\t0\nY\t1\t990\nY\t2\t660\nT\t150\t1650\t3\nE\t150\n";
     assert_eq!(sheet(text), printed);
     let auction = case_1();
     assert_state(&auction, &[2, 1], 150, 1_650, 150);
-    assert_eq!((auction.prices(), auction.gains()), (vec![570, 60], vec![600, 420]));
+    assert_eq!((auction.prices(), auction.gains()), (vec![990, 660], vec![0, 0]));
 }
 
 #[test]
@@ -59,6 +63,7 @@ fn case_3_wide_slack() {
     assert_eq!(arrive(&mut auction, &[(1, 100)]), Ok(1));
     assert_eq!(arrive(&mut auction, &[(1, 500)]), Ok(0));
     assert_state(&auction, &[1, 0], 100, 1_900, 500);
+    assert_eq!((auction.prices(), auction.gains()), (vec![1_900], vec![0, 0]));
 }
 
 #[test]
@@ -67,6 +72,7 @@ fn case_4_equality_is_not_open() {
     assert_eq!(arrive(&mut auction, &[(1, 100)]), Ok(1));
     assert_eq!(arrive(&mut auction, &[(1, 100)]), Ok(0));
     assert_state(&auction, &[1, 0], 100, 300, 100);
+    assert_eq!((auction.prices(), auction.gains()), (vec![300], vec![0, 0]));
 }
 
 #[test]
@@ -74,6 +80,7 @@ fn case_5_lowest_item() {
     let mut auction = open(2, 1, 10).unwrap();
     assert_eq!(arrive(&mut auction, &[(1, 50), (2, 50)]), Ok(1));
     assert_eq!(auction.matching(), [1]);
+    assert_eq!((auction.prices(), auction.gains()), (vec![50, 0], vec![500]));
 }
 
 #[test]
@@ -129,47 +136,53 @@ fn case_14_withdrawn_twice() {
     refused(arrive(&mut auction, &[(2, 5), (1, 5)]), 5, 2);
 }
 
+/// The first finds 120 and raises the price to 180. That is above 122 for the second, which
+/// has item 2 for 90, and leaves 62 for the third, not above 121.
 #[test]
 fn case_15_true_share() {
     let mut auction = open(2, 1, 2).unwrap();
     assert_eq!(arrive(&mut auction, &[(1, 60)]), Ok(1));
     assert_eq!(arrive(&mut auction, &[(1, 61), (2, 30)]), Ok(1));
     assert_eq!(arrive(&mut auction, &[(1, 121)]), Ok(0));
-    assert_state(&auction, &[0, 1, 0], 61, 183, 151);
+    assert_state(&auction, &[1, 2, 0], 90, 270, 151);
+    assert_eq!((auction.prices(), auction.gains()), (vec![180, 90], vec![0, 0, 0]));
 }
 
 /// Document 02, R-1: "at 1/10 with kettle 1 priced 0 and worth 50, and kettle 2
-/// priced 100 and worth 60, kettle 2 is now taken". Its holder takes it back.
+/// priced 100 and worth 60, kettle 2 is now taken". Item 2 is priced 100 by a bidder whom
+/// item 3 serves as well; it finds 840 there then, and 1,000 at item 3.
 #[test]
 fn equal_utility_goes_to_the_larger_weight() {
-    let mut auction = open(2, 1, 10).unwrap();
-    assert_eq!(arrive(&mut auction, &[(2, 100)]), Ok(1));
-    assert_eq!(auction.prices(), [0, 100]);
-    assert_eq!(arrive(&mut auction, &[(1, 50), (2, 60)]), Ok(3));
-    assert_state(&auction, &[2, 1], 150, 1_650, 150);
-    assert_eq!((auction.prices(), auction.gains()), (vec![50, 260], vec![840, 500]));
+    let mut auction = open(3, 1, 10).unwrap();
+    assert_eq!(arrive(&mut auction, &[(2, 100), (3, 100)]), Ok(1));
+    assert_eq!((auction.prices(), auction.gains()), (vec![0, 100, 0], vec![1_000]));
+    assert_eq!(arrive(&mut auction, &[(1, 50), (2, 60)]), Ok(2));
+    assert_state(&auction, &[3, 2], 160, 1_760, 160);
+    assert_eq!((auction.prices(), auction.gains()), (vec![0, 160, 260], vec![840, 500]));
 }
 
-/// The same, but the holder of item 2 has no open edge left, so that item 2 stays.
+/// The same, but the holder of item 2 has no open edge left: item 3 is priced 880.
 #[test]
 fn larger_weight_is_kept() {
     let mut auction = open(3, 1, 10).unwrap();
-    assert_eq!(arrive(&mut auction, &[(2, 89), (3, 80)]), Ok(1));
-    assert_eq!(arrive(&mut auction, &[(2, 11)]), Ok(2));
-    assert_eq!((auction.prices(), auction.matching()), (vec![0, 100, 80], vec![3, 2]));
+    assert_eq!(arrive(&mut auction, &[(2, 10), (3, 1)]), Ok(1));
+    assert_eq!(arrive(&mut auction, &[(3, 80)]), Ok(1));
+    assert_eq!((auction.prices(), auction.gains()), (vec![0, 100, 880], vec![10, 0]));
     assert_eq!(arrive(&mut auction, &[(1, 50), (2, 60)]), Ok(1));
-    assert_state(&auction, &[3, 0, 2], 140, 1_540, 141);
-    assert_eq!((auction.prices(), auction.gains()), (vec![0, 160, 80], vec![800, 0, 500]));
+    assert_state(&auction, &[0, 3, 2], 140, 1_540, 140);
+    assert_eq!((auction.prices(), auction.gains()), (vec![0, 160, 880], vec![0, 0, 500]));
 }
 
-/// Item 2 has equal utility and the larger weight, but "equality is not open".
+/// Item 2 has equal utility and the larger weight, but "equality is not open": it is neither
+/// taken nor the second.
 #[test]
 fn larger_weight_must_be_open() {
-    let mut auction = open(2, 1, 2).unwrap();
-    assert_eq!(arrive(&mut auction, &[(2, 100)]), Ok(1));
+    let mut auction = open(3, 1, 2).unwrap();
+    assert_eq!(arrive(&mut auction, &[(2, 100), (3, 100)]), Ok(1));
+    assert_eq!((auction.prices(), auction.gains()), (vec![0, 100, 0], vec![200]));
     assert_eq!(arrive(&mut auction, &[(1, 50), (2, 100)]), Ok(1));
-    assert_state(&auction, &[2, 1], 150, 450, 150);
-    assert_eq!((auction.prices(), auction.gains()), (vec![50, 100], vec![200, 100]));
+    assert_state(&auction, &[2, 1], 150, 450, 200);
+    assert_eq!((auction.prices(), auction.gains()), (vec![150, 100, 0], vec![200, 0]));
 }
 
 /// Edge by edge 4, 5, 6, 7: the first bad edge decides.
@@ -200,9 +213,9 @@ fn a_list_of_items() {
     let mut auction = crossed();
     assert_eq!(auction.withdraw(&[1, 2]), Ok(1));
     assert_state(&auction, &[3, 0], 50, 150, 50);
-    assert_eq!((auction.prices(), auction.gains()), (vec![0, 0, 50], vec![100, 0]));
+    assert_eq!((auction.prices(), auction.gains()), (vec![0, 0, 150], vec![0, 0]));
     let text = b"K\t3\t1\t2\nA\t2\t100\t3\t50\nA\t1\t100\t3\t50\nW\t1\t2\n";
-    assert_eq!(sheet(text), b"P\t1\t3\t100\nP\t2\t0\t0\nY\t3\t50\nT\t50\t150\t3\nE\t50\n");
+    assert_eq!(sheet(text), b"P\t1\t3\t0\nP\t2\t0\t0\nY\t3\t150\nT\t50\t150\t3\nE\t50\n");
 }
 
 /// "An empty list changes nothing in a call and is badly formed as a line".
@@ -275,7 +288,7 @@ fn refusals_of_two_plans_in_order() {
 }
 
 /// Document 02, R-6: an item of two places at 1/10, and one of one. The first takes the first
-/// place; the second finds 900 at the other.
+/// place, without lead; the second finds 900 at the other, and 800 at the first.
 fn double() -> Auction {
     let slack = Slack { p: 1, q: 10 };
     let mut auction = Auction::open_places(2, slack, &[2, 1]).unwrap();
@@ -291,15 +304,15 @@ fn double() -> Auction {
 fn a_double_kettle() {
     let auction = double();
     assert_state(&auction, &[1, 1], 190, 11 * 190, 190);
-    assert_eq!(auction.items[0].prices, [100, 90]);
-    assert_eq!((auction.prices(), auction.gains()), (vec![90, 0], vec![1_000, 900]));
+    assert_eq!(auction.items[0].prices, [100, 190]);
+    assert_eq!((auction.prices(), auction.gains()), (vec![100, 0], vec![1_000, 800]));
     let (matching, price, gain) = (auction.matching(), auction.prices(), auction.gains());
     let mut claim = Claim { matching, price, gain, slack: auction.slack };
-    assert_eq!(check(&auction, &claim), Ok(Totals { weight: 190, sum: 2 * 90 + 1_900 }));
+    assert_eq!(check(&auction, &claim), Ok(Totals { weight: 190, sum: 2 * 100 + 1_800 }));
     claim.price[0] += 1;
-    assert_eq!(check(&auction, &claim), Ok(Totals { weight: 190, sum: 2 * 91 + 1_900 }));
+    assert_eq!(check(&auction, &claim), Ok(Totals { weight: 190, sum: 2 * 101 + 1_800 }));
     let text = b"K\t2\t1\t10\nP\t1\t2\nA\t1\t100\t2\t60\nA\t1\t90\n";
-    let printed = b"P\t1\t1\t1000\nP\t2\t1\t900\nY\t1\t90\nY\t2\t0\nT\t190\t2090\t2\nE\t190\n";
+    let printed = b"P\t1\t1\t1000\nP\t2\t1\t800\nY\t1\t100\nY\t2\t0\nT\t190\t2090\t2\nE\t190\n";
     assert_eq!(sheet(text), printed);
 }
 
@@ -327,4 +340,25 @@ fn counts_at_opening() {
     refused(open(&[1, 8, 0]), 16, 3);
     refused(Auction::open_places(9, Slack { p: 1, q: 10 }, &[8; 9]), 16, 0);
     assert!(Auction::open_places(8, Slack { p: 1, q: 10 }, &[8; 8]).is_ok());
+}
+
+/// Document 02, R-7: "Refusal 11's limit of 1,000,000,000 becomes 2,000,000,000".
+#[test]
+fn prices_and_gains_at_the_limit() {
+    let (auction, slack) = (case_1(), Slack { p: 0, q: 1 });
+    for (list, cell) in [(0, 0), (0, 1), (1, 0), (1, 1)] {
+        let with = |number: u64| {
+            let mut lists = [vec![100, 60], vec![100, 90]];
+            lists[list][cell] = number;
+            let [price, gain] = lists;
+            check(&auction, &Claim { matching: vec![2, 1], price, gain, slack })
+        };
+        let sum = 350 - [[100, 60], [100, 90]][list][cell];
+        for number in [1_000_000_000, 1_000_000_001, 2_000_000_000] {
+            assert_eq!(with(number), Ok(Totals { weight: 150, sum: sum + number }));
+        }
+        for number in [2_000_000_001, u64::MAX] {
+            refused(with(number), 11, 2 * list as u64 + cell as u64 + 1);
+        }
+    }
 }

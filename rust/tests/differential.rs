@@ -181,8 +181,8 @@ fn histories_of_places_full_of_ties() {
         run_served(kind);
         let ties = ties_of(seeds(kind).map(|seed| history(&mut Rng::new(seed), kind)));
         println!("{ties:?}");
-        assert!(ties.places > 8_000 && ties.both > 2_000 && ties.cheaper > 10_000);
-        assert!(ties.full > 4_000 && ties.lower > 400);
+        assert!(ties.places > 6_000 && ties.both > 2_000 && ties.cheaper > 10_000);
+        assert!(ties.full > 4_000 && ties.lower > 150);
     }
 }
 

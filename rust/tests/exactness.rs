@@ -226,6 +226,43 @@ fn refusals_in_order() {
     seen.assert_seen("check", &[0, SLACK, UNEVEN, CLASH, PRICE, BARE, SPOILT], 1);
 }
 
+/// A price or a gain of the case board, item 3 left out, and whether the check takes it.
+const NUMBERS: [(u64, bool); 9] = [
+    (1_000_000_000, true),
+    (1_000_000_001, true),
+    (1_999_000_000, true),
+    (2_000_000_000, true),
+    (2_000_000_001, false),
+    (4_000_000_000, false),
+    ((1 << 32) + 1, false),
+    (1 << 63, false),
+    (u64::MAX, false),
+];
+
+/// "Refusal 11's limit of 1,000,000,000 becomes 2,000,000,000" (document 02, R-7).
+#[test]
+fn prices_and_gains_at_the_limit() {
+    let mut seen = Tally::default();
+    let mut both = case_board(&mut seen);
+    for (slack, cell) in
+        [(0, 1), (1, 10)].iter().flat_map(|&slack| [0, 1, 3, 4].map(|cell| (slack, cell)))
+    {
+        for (number, taken) in NUMBERS {
+            let mut cells = [1_000, 1_000, 0, 1_000, 1_000];
+            cells[cell] = number;
+            let (price, gain) = (cells[..3].to_vec(), cells[3..].to_vec());
+            let slack = Slack { p: slack.0, q: slack.1 };
+            let claim = Claim { matching: vec![2, 1], price, gain, slack };
+            let expected = match taken {
+                true => Ok(Totals { weight: 150, sum: cells.iter().sum() }),
+                false => refuse(PRICE, cell as u64 + 1),
+            };
+            assert_eq!(both.check(&claim), Ok(expected), "{claim:?}");
+        }
+    }
+    seen.assert_seen("check", &[0, PRICE], 32);
+}
+
 /// Lowering the gain of a placed bidder by a penny uncovers its own edge.
 #[test]
 fn no_penny_is_missed() {

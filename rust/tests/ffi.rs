@@ -1,5 +1,6 @@
-//! The proved calls, from the static library, on the first cases of document 01
-//! and on the example of R-1 in document 02, and cases of R-3, R-4 and R-6.
+//! The proved calls, from the static library, on the first cases of document 01, as they
+//! come out by the bid of R-7 in document 02, on the example of R-1, and on cases of R-3,
+//! R-4, R-6 and R-7.
 
 use noughtelm_tests::both::compare::order_of;
 use noughtelm_tests::ffi::{
@@ -7,8 +8,7 @@ use noughtelm_tests::ffi::{
 };
 
 const TEXT: &[u8] = b"K\t2\t1\t10\nA\t1\t100\t2\t60\nA\t1\t90\n";
-const PRINTED: &[u8] =
-    b"P\t1\t2\t600\nP\t2\t1\t420\nY\t1\t570\nY\t2\t60\nT\t150\t1650\t7\nE\t150\n";
+const PRINTED: &[u8] = b"P\t1\t2\t0\nP\t2\t1\t0\nY\t1\t990\nY\t2\t660\nT\t150\t1650\t3\nE\t150\n";
 const FIRST: [Edge; 2] = [Edge { item: 1, weight: 100 }, Edge { item: 2, weight: 60 }];
 const SECOND: [Edge; 1] = [Edge { item: 1, weight: 90 }];
 
@@ -26,7 +26,7 @@ fn case_1() -> Answer {
     let first = ffi::arrive(opened.board, &FIRST);
     assert_eq!(first.told(), served(1));
     let second = ffi::arrive(first.board, &SECOND);
-    assert_eq!(second.told(), served(6));
+    assert_eq!(second.told(), served(2));
     second
 }
 
@@ -38,13 +38,13 @@ fn case_1_by_calls() {
     assert_eq!((board.places, board.arrived, board.slack.p, board.slack.q), (2, 2, 1, 10));
     let (mut plan, mut prices, mut gains) = ([9; 3], [9; 3], [9; 3]);
     let told = ffi::read_out(board, &mut plan, &mut prices, &mut gains);
-    assert_eq!((told, plan, prices, gains), (served(0), [2, 1, 9], [570, 60, 9], [600, 420, 9]));
+    assert_eq!((told, plan, prices, gains), (served(0), [2, 1, 9], [990, 660, 9], [0, 0, 9]));
 }
 
 #[test]
 fn case_1_by_text() {
     let replayed = ffi::replay(TEXT);
-    assert_eq!(replayed.told(), served(7));
+    assert_eq!(replayed.told(), served(3));
     assert_eq!(replayed.board, case_1().board);
     let mut out = [7; 100];
     assert_eq!(ffi::plan_text(TEXT, &mut out), served(PRINTED.len() as u64));
@@ -58,7 +58,7 @@ fn a_refused_text() {
     let mut text = TEXT.to_vec();
     text.extend_from_slice(b"W\t3\n");
     let replayed = ffi::replay(&text);
-    assert_eq!(replayed.told(), Told { number: 4, place: 4, value: 7 });
+    assert_eq!(replayed.told(), Told { number: 4, place: 4, value: 3 });
     assert_eq!(replayed.board, case_1().board);
     let mut out = [7; 100];
     assert_eq!((ffi::plan_text(&text, &mut out), out), (refused(4, 4), [7; 100]));
@@ -99,7 +99,7 @@ fn withdrawals() {
     assert_eq!((again.told(), again.board), (refused(5, 1), gone.board));
     let (mut plan, mut prices, mut gains) = ([0; 2], [0; 2], [0; 2]);
     ffi::read_out(gone.board, &mut plan, &mut prices, &mut gains);
-    assert_eq!((plan, prices, gains), ([2, 0], [0, 60], [600, 0]));
+    assert_eq!((plan, prices, gains), ([2, 0], [0, 660], [0, 0]));
 }
 
 /// Document 02, R-3: bidders 1 and 2 hold items 2 and 1, and want item 3.
@@ -122,7 +122,7 @@ fn lists_of_items() {
     assert_eq!((empty.told(), empty.board), (served(0), board));
     let gone = ffi::withdraw(board, &[1, 2]);
     assert_eq!((gone.told(), ffi::is_sound(gone.board)), (served(1), true));
-    assert_lists(gone.board, [3, 0], [0, 0, 50], [100, 0]);
+    assert_lists(gone.board, [3, 0], [0, 0, 150], [0, 0]);
     assert_eq!(ffi::withdraw(gone.board, &[3, 1]).told(), refused(5, 2));
     assert_eq!(ffi::withdraw(gone.board, &[3]).told(), served(0));
 }
@@ -153,24 +153,25 @@ fn case_5_stands() {
 }
 
 /// Document 02, R-1: "at 1/10 with kettle 1 priced 0 and worth 50, and kettle 2
-/// priced 100 and worth 60, kettle 2 is now taken". Its holder takes it back.
+/// priced 100 and worth 60, kettle 2 is now taken". Item 2 is priced 100 by a bidder whom
+/// item 3 serves as well; it finds 840 there then, and 1,000 at item 3.
 #[test]
 fn equal_utility_goes_to_the_larger_weight() {
-    let board = arrived(ffi::open(2, 1, 10).board, &[(2, 100)], 1);
-    assert_lists(board, [2], [0, 100], [1_000]);
-    let board = arrived(board, &[(1, 50), (2, 60)], 3);
-    assert_lists(board, [2, 1], [50, 260], [840, 500]);
+    let board = arrived(ffi::open(3, 1, 10).board, &[(2, 100), (3, 100)], 1);
+    assert_lists(board, [2], [0, 100, 0], [1_000]);
+    let board = arrived(board, &[(1, 50), (2, 60)], 2);
+    assert_lists(board, [3, 2], [0, 160, 260], [840, 500]);
 }
 
-/// The same, but the holder of item 2 has no open edge left, so that item 2 stays:
-/// after a history, and on a sound board that no history need reach.
+/// The same, but the holder of item 2 has no open edge left: after a history in which item 3
+/// is priced 880, and on a sound board that no history need reach.
 #[test]
 fn larger_weight_is_kept() {
-    let board = arrived(ffi::open(3, 1, 10).board, &[(2, 89), (3, 80)], 1);
-    let board = arrived(board, &[(2, 11)], 2);
-    assert_lists(board, [3, 2], [0, 100, 80], [800, 21]);
+    let board = arrived(ffi::open(3, 1, 10).board, &[(2, 10), (3, 1)], 1);
+    let board = arrived(board, &[(3, 80)], 1);
+    assert_lists(board, [2, 3], [0, 100, 880], [10, 0]);
     let board = arrived(board, &[(1, 50), (2, 60)], 1);
-    assert_lists(board, [3, 0, 2], [0, 160, 80], [800, 0, 500]);
+    assert_lists(board, [0, 3, 2], [0, 160, 880], [0, 0, 500]);
 
     let mut board = arrived(ffi::open(2, 1, 10).board, &[(2, 10)], 1);
     (board.price[1], board.gain[0]) = (Scaled(100), Scaled(10));
@@ -179,12 +180,14 @@ fn larger_weight_is_kept() {
     assert_lists(board, [0, 2], [0, 160], [0, 500]);
 }
 
-/// Item 2 has equal utility and the larger weight, but "equality is not open".
+/// Item 2 has equal utility and the larger weight, but "equality is not open": it is neither
+/// taken nor the second.
 #[test]
 fn larger_weight_must_be_open() {
-    let board = arrived(ffi::open(2, 1, 2).board, &[(2, 100)], 1);
+    let board = arrived(ffi::open(3, 1, 2).board, &[(2, 100), (3, 100)], 1);
+    assert_lists(board, [2], [0, 100, 0], [200]);
     let board = arrived(board, &[(1, 50), (2, 100)], 1);
-    assert_lists(board, [2, 1], [50, 100], [200, 100]);
+    assert_lists(board, [2, 1], [150, 100, 0], [200, 0]);
 }
 
 #[test]
@@ -198,6 +201,31 @@ fn exact_and_check() {
     let bare = Totals { number: 12, place: 1, weight: 0, total: 0 };
     assert_eq!(ffi::check(board, &[2, 1], &[39, 0], &[60, 50], 0, 1), bare);
     assert_eq!(ffi::exact(board, &mut [], &mut prices, &mut gains), refused(8, 0));
+}
+
+/// Document 02, R-7: "Refusal 11's limit of 1,000,000,000 becomes 2,000,000,000". Items 1 and
+/// 2 are places 1 and 2 of the refusal, the gains of bidders 1 and 2 places 3 and 4.
+#[test]
+fn prices_and_gains_at_the_limit() {
+    let board = case_1().board;
+    let with = |cell: usize, number: u64| {
+        let mut lists = [100, 60, 100, 90];
+        lists[cell] = number;
+        let rest = 350 - [100, 60, 100, 90][cell];
+        (ffi::check(board, &[2, 1], &lists[..2], &lists[2..], 0, 1), rest)
+    };
+    for cell in 0..4 {
+        for number in [1_000_000_000, 1_000_000_001, 2_000_000_000] {
+            let (totals, rest) = with(cell, number);
+            let total = rest + number;
+            assert_eq!(totals, Totals { number: 0, place: 0, weight: 150, total });
+        }
+        for number in [2_000_000_001, 1 << 32, u64::MAX] {
+            let place = cell as u64 + 1;
+            let refused = Totals { number: 11, place, weight: 0, total: 0 };
+            assert_eq!(with(cell, number).0, refused);
+        }
+    }
 }
 
 /// These plans, of these weights, stand in order: every pair of them.
@@ -320,20 +348,20 @@ fn counts_at_opening() {
     assert!(ffi::is_sound(opened.board));
 }
 
-/// Document 02, R-6: an item of two places, which are taken one after the other. A bidder of
-/// weight 95 finds 950 - 90 at the second.
+/// Document 02, R-6: an item of two places, which are taken one after the other. The second
+/// bidder finds 900 at the second place, and 900 - 100 at the first.
 #[test]
 fn a_double_kettle() {
     let board = arrived(ffi::open_places(2, 1, 10, &[2, 1]).board, &[(1, 100), (2, 60)], 1);
     let board = arrived(board, &[(1, 90)], 1);
-    assert_eq!((board.price[0], board.price[1]), (Scaled(100), Scaled(90)));
-    assert_lists(board, [1, 1], [90, 0], [1_000, 900]);
-    let totals = Totals { number: 0, place: 0, weight: 190, total: 2 * 90 + 1_900 };
-    assert_eq!(ffi::check(board, &[1, 1], &[90, 0], &[1_000, 900], 1, 10), totals);
+    assert_eq!((board.price[0], board.price[1]), (Scaled(100), Scaled(190)));
+    assert_lists(board, [1, 1], [100, 0], [1_000, 800]);
+    let totals = Totals { number: 0, place: 0, weight: 190, total: 2 * 100 + 1_800 };
+    assert_eq!(ffi::check(board, &[1, 1], &[100, 0], &[1_000, 800], 1, 10), totals);
     let clash = Totals { number: 10, place: 3, weight: 0, total: 0 };
     let third = ffi::arrive(board, &[Edge { item: 1, weight: 10 }]);
     assert_eq!(third.told(), served(0));
-    assert_eq!(ffi::check(third.board, &[1, 1, 1], &[90, 0], &[1_000, 900, 0], 1, 10), clash);
+    assert_eq!(ffi::check(third.board, &[1, 1, 1], &[100, 0], &[1_000, 800, 0], 1, 10), clash);
     let (mut plan, mut prices, mut gains) = ([0; 3], [0; 2], [0; 3]);
     assert_eq!(ffi::exact(third.board, &mut plan, &mut prices, &mut gains), served(190));
     assert_eq!(plan, [1, 1, 0]);
@@ -342,7 +370,7 @@ fn a_double_kettle() {
     let gone = ffi::withdraw(third.board, &[1]);
     assert_eq!((gone.told(), ffi::is_sound(gone.board)), (served(1), true));
     assert_eq!(gone.board.withdrawn[..4], [1, 1, 0, 0]);
-    assert_lists(gone.board, [2, 0, 0], [0, 60], [600, 0, 0]);
+    assert_lists(gone.board, [2, 0, 0], [0, 660], [0, 0, 0]);
 }
 
 /// `P` lines open the board that the call does.
@@ -353,7 +381,7 @@ fn a_text_with_places() {
     let replayed = ffi::replay(text);
     assert_eq!(replayed.told(), served(2));
     assert_eq!(replayed.board, arrived(board, &[(1, 90)], 1));
-    try_sheet(text, b"P\t1\t1\t1000\nP\t2\t1\t900\nY\t1\t90\nY\t2\t0\nT\t190\t2090\t2\nE\t190\n");
+    try_sheet(text, b"P\t1\t1\t1000\nP\t2\t1\t800\nY\t1\t100\nY\t2\t0\nT\t190\t2090\t2\nE\t190\n");
     try_sheet(b"K\t2\t1\t10\nP\t1\t9\n", b"R\t16\t2\n");
     try_sheet(b"K\t64\t1\t10\nP\t1\t2\n", b"R\t16\t1\n");
 }

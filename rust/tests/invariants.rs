@@ -192,20 +192,22 @@ fn contested(count: u64, seeds: Range<u64>) -> u64 {
             Err(found) => panic!("seed {seed}: {found}\n{history:?}"),
         }
     }
-    println!("up to {nearest} of 100 bids that are allowed");
+    println!("{count} places: up to {nearest} of 100 bids that are allowed");
     seen.assert_seen("arrive", &[0], 500);
     nearest
 }
 
+/// A place's price rises to the weights once, and the bound counts that for each bidder at
+/// the item: a third at best where two places have three bidders. Since R-7 of document 02 it
+/// is half of that in long wars, as most prices rise by a lead too, and a single place is
+/// bid for once.
 #[test]
 fn contested_items() {
-    assert!(contested(1, 290_000..290_120) >= 50);
+    assert!(contested(1, 290_000..290_120) >= 15);
 }
 
-/// A place's price rises to the weights once, and the bound counts that for each bidder at
-/// the item: so it is a third at best where two places have three bidders.
 #[test]
 fn contested_places() {
-    assert!(contested(2, 291_000..291_120) >= 30);
-    assert!(contested(3, 292_000..292_120) >= 20);
+    assert!(contested(2, 291_000..291_120) >= 15);
+    assert!(contested(3, 292_000..292_120) >= 15);
 }

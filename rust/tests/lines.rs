@@ -139,14 +139,15 @@ fn a_refused_line_withdraws_nothing() {
 
 // ---- whole texts
 
-/// Every answer of a list, worked out by hand: what is printed.
+/// Every answer of a list, worked out by hand: what is printed. Of three rivals for item 4 the
+/// first finds 900, and raises it to 990, above 10 times what the others would save.
 #[test]
 fn texts_by_hand() {
     let mut seen = Tally::default();
     let small = "K\t3\t1\t10\nA\t1\t10\nA\t1\t11\nW\t2\n";
     let all_65 = line_of(1..=65);
     let rivals = "K\t4\t1\t10\nA\t1\t100\t4\t90\nA\t2\t100\t4\t95\nA\t3\t100\t4\t92\n";
-    let rivals_out = "P\t1\t0\t0\nP\t2\t4\t120\nP\t3\t0\t0\nY\t4\t925\nT\t95\t1045\t13\nE\t95\n";
+    let rivals_out = "P\t1\t4\t0\nP\t2\t0\t0\nP\t3\t0\t0\nY\t4\t990\nT\t90\t990\t4\nE\t95\n";
     for (text, printed) in [
         (format!("{rivals}W\t1\t2\t3\n"), rivals_out),
         (format!("{small}W\t1\t1\nA\t1\t7\n"), "R\t7\t5\n"),

@@ -1,6 +1,6 @@
 //! The model against itself: document 01's laws on random histories, the choice
-//! of an edge against trying all pairs of them, the solver against trying
-//! everything, and the check on pairs that it must take.
+//! of an edge and of the second against trying all pairs of them, the solver
+//! against trying everything, and the check on pairs that it must take.
 
 use noughtelm_tests::gen::claim;
 use noughtelm_tests::gen::history::{history, staircase, Call, History, Kind};
@@ -196,21 +196,38 @@ fn choosing(rng: &mut Rng, most: u64) -> Auction {
     Auction { slack: Slack { p, q }, items, bidders: vec![Bidder { edges, gain: 0, held }] }
 }
 
+/// What one bid comes to: the place held, the gain, and the prices of all places.
+type Bid = (Option<Place>, u64, Vec<Vec<u64>>);
+
+fn by_place(auction: &Auction) -> Vec<Vec<u64>> {
+    auction.items.iter().map(|item| item.prices.clone()).collect()
+}
+
+/// The bid that takes the first of these offers, with the first of the others as second.
+fn bid_among(left: &Auction, offers: &[Offer]) -> Bid {
+    let Some(first) = by_pairs(offers) else { return (None, 0, by_place(left)) };
+    let others: Vec<Offer> = offers.iter().copied().filter(|o| o.place != first.place).collect();
+    let second = by_pairs(&others).map_or(0, |offer| offer.utility);
+    let mut left = left.clone();
+    let rise = (first.utility - second) as u64 + left.slack.p * first.weight;
+    *left.price_mut(first.place) += rise;
+    (Some(first.place), second as u64, by_place(&left))
+}
+
 /// One bid at any prices, of a bidder whose item is withdrawn: the edge taken comes
-/// first in every pair of open ones.
+/// first in every pair of open ones, the second in every pair of the others.
 fn choose_by_pairs(rng: &mut Rng, most: u64) -> Ties {
     let (mut ties, mut unplaced) = (Ties::default(), 0);
     for _ in 0..30_000 {
         let mut auction = choosing(rng, most);
         let last = auction.items.len();
         let mut left = auction.clone();
-        left.items[last - 1].withdrawn = true;
+        left.items[last - 1].leave();
         let offers = offers(&left, 0);
         let expected = by_pairs(&offers);
         assert_eq!(auction.withdraw(&[last as u64]), Ok(expected.is_some() as u64));
-        let taken = (auction.bidders[0].held, auction.bidders[0].gain as i64);
-        let told = format!("{:?}, {offers:?}", auction.slack);
-        assert_eq!(taken, expected.map_or((None, 0), |o| (Some(o.place), o.utility)), "{told}");
+        let bid = (auction.bidders[0].held, auction.bidders[0].gain, by_place(&auction));
+        assert_eq!(bid, bid_among(&left, &offers), "{:?}, {offers:?}", auction.slack);
         unplaced += expected.is_none() as u64;
         expected.into_iter().for_each(|taken| ties.note(&offers, taken));
     }
@@ -270,11 +287,11 @@ fn lowest_item(offers: &[Offer]) -> Option<Offer> {
 #[test]
 fn lowest_item_gives_something_else() {
     let edge = |item: u64, weight: u64| Edge { item, weight };
-    let calls = [vec![edge(2, 100)], vec![edge(1, 50), edge(2, 60)]].map(Call::Arrive).to_vec();
-    let example = History::of_ones(2, Slack { p: 1, q: 10 }, calls);
+    let lists = [vec![edge(2, 100), edge(3, 100)], vec![edge(1, 50), edge(2, 60)]];
+    let example = History::of_ones(3, Slack { p: 1, q: 10 }, lists.map(Call::Arrive).to_vec());
     let (now, before) = (walk(&example, by_pairs), walk(&example, lowest_item));
-    assert_eq!((now.ties.bids, now.auction.prices()), (4, vec![50, 260]));
-    assert_eq!((before.ties.bids, before.auction.prices()), (2, vec![50, 100]));
+    assert_eq!((now.ties.bids, now.auction.prices()), (3, vec![0, 160, 260]));
+    assert_eq!((before.ties.bids, before.auction.prices()), (2, vec![50, 100, 0]));
     let mut rng = Rng::new(17);
     let (mut boards, mut matchings) = (0, 0);
     for _ in 0..2_000 {

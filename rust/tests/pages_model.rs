@@ -32,11 +32,14 @@ fn pages_by_hand() {
     assert_eq!(read(page.as_bytes()), Ok(vec![most, UNPLACED, least]));
 }
 
-/// Cases 1, 2 and 6 of document 01, and texts that are refused.
+/// Case 1 of document 01 without its last line and with it, cases 2 and 6, and texts that are
+/// refused.
 #[test]
 fn pages_of_texts_by_hand() {
-    let first = "  1  2      60        600\n";
-    assert_eq!(printed(CASE_1), format!("{HEADING}{first}  2  1      90        420\n"));
+    let alone = "  1  1     100        600\n";
+    assert_eq!(printed("K\t2\t1\t10\nA\t1\t100\t2\t60\n"), format!("{HEADING}{alone}"));
+    let first = "  1  2      60          0\n";
+    assert_eq!(printed(CASE_1), format!("{HEADING}{first}  2  1      90          0\n"));
     let gone = format!("{CASE_1}W\t1\n");
     assert_eq!(printed(&gone), format!("{HEADING}{first}  2 --       0          0\n"));
     assert_eq!(printed("K\t64\t999\t1000\nA\n"), format!("{HEADING}  1 --       0          0\n"));

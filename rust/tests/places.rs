@@ -191,45 +191,61 @@ fn cells(board: &ffi::Board) -> (Vec<u64>, Vec<u8>) {
     (board.price[..places].iter().map(|y| y.0).collect(), board.holder[..places].to_vec())
 }
 
-/// One item of two places at 1/2, and worths of 100, 80 and 90: the third finds 180 - 80 at
-/// the second place, above 90, and 180 - 100 at the first, which is not open.
+/// One item of two places at 1/2, and worths of 100, 120 and 150. The first has the first place
+/// without lead. The second finds 240 at the second place and 140 at the first; the third finds
+/// 200 at the first, above 150, and 80 at the second, which is not open.
+fn double(seen: &mut Tally) -> Watched<'_> {
+    let arrivals: [(&[(u64, u64)], u64); 3] =
+        [(&[(1, 100)], 1), (&[(1, 120)], 1), (&[(1, 150)], 1)];
+    board_by_hand(&[2], &arrivals, seen)
+}
+
+const DOUBLE: [&[u64]; 3] = [&[0, 1, 1], &[220], &[0, 140, 0]];
+
 #[test]
 fn a_double_kettle() {
     let mut seen = Tally::default();
-    let arrivals: [(&[(u64, u64)], u64); 3] = [(&[(1, 100)], 1), (&[(1, 80)], 1), (&[(1, 90)], 1)];
-    let mut board = board_by_hand(&[2], &arrivals, &mut seen);
+    let mut board = double(&mut seen);
     let ours = board.both.ours;
     assert_eq!((ours.items.count, &ours.items.places[..2], ours.places), (1, &[2, 0][..], 2));
-    assert_eq!(cells(&ours), (vec![100, 170], vec![1, 3]));
+    assert_eq!(cells(&ours), (vec![450, 220], vec![3, 2]));
     let both = &mut board.both;
-    let [m, y, g] = both.read_out([3, 1, 3]).expect("both agree").expect("room");
-    assert_eq!((&m[..], &y[..], &g[..]), (&[1, 0, 1][..], &[100][..], &[200, 0, 100][..]));
+    let lists = both.read_out([3, 1, 3]).expect("both agree").expect("room");
+    assert_eq!(lists, DOUBLE.map(|list| list.to_vec()));
     assert_eq!(both.read_out([3, 0, 3]), Ok(refuse(SHORT, 0)));
-    let own = Claim { matching: m, price: y, gain: g, slack: HALF };
-    assert_eq!(both.check(&own), Ok(Ok(Totals { weight: 190, sum: 500 })));
-    // The price counts twice; at 79 bidder 2's edge of 80 is bare.
-    let dearer = Claim { price: vec![101], ..own.clone() };
-    assert_eq!(both.check(&dearer), Ok(Ok(Totals { weight: 190, sum: 502 })));
-    let named = Claim { matching: vec![1, 1, 1], ..own.clone() };
-    assert_eq!(both.check(&named), Ok(refuse(CLASH, 3)));
-    let bare = Claim { price: vec![79], ..own.clone() };
-    assert_eq!(both.check(&bare), Ok(refuse(BARE, 2)));
-    // A cell for the item, not for its places; a gain's place counts from there.
-    let uneven = Claim { price: vec![100, 100], ..own.clone() };
-    assert_eq!(both.check(&uneven), Ok(refuse(UNEVEN, 0)));
-    let high = Claim { gain: vec![200, MAX_PRICE + 1, 100], ..own };
-    assert_eq!(both.check(&high), Ok(refuse(PRICE, 1 + 2)));
     let exact = both.exact(wide()).expect("both agree").expect("room");
-    assert_eq!((times(&exact.matching, 1), exact.matching[1]), (2, 0));
-    assert_eq!(both.compare(&[1, 0, 1], &exact.matching).unwrap().unwrap().difference, 0);
-    assert_eq!(both.compare(&[1, 1, 0], &[1, 0, 1]).unwrap().unwrap().difference, -10);
+    assert_eq!((times(&exact.matching, 1), exact.matching[0]), (2, 0));
+    assert_eq!(both.compare(&[0, 1, 1], &exact.matching).unwrap().unwrap().difference, 0);
+    assert_eq!(both.compare(&[1, 1, 0], &[0, 1, 1]).unwrap().unwrap().difference, -50);
     assert_eq!(both.compare(&[0, 1, 1], &[1, 1, 1]), Ok(refuse(CLASH, 3)));
     let page = both.write_page(MAX_PAGE).expect("both agree").expect("room");
-    let lines = "  1  1     100        200\n  2 --       0          0\n  3  1      90        100\n";
+    let lines = "  1 --       0          0\n  2  1     120        140\n  3  1     150          0\n";
     assert_eq!(String::from_utf8(page).unwrap(), format!("BAT KT   WORTH       GAIN\n{lines}"));
     assert_eq!(board.withdraw(&[1]), Ok(Ok(0)));
     assert_eq!(cells(&board.both.ours), (vec![0, 0], vec![0, 0]));
     assert_eq!(board.both.ours.withdrawn[..3], [1, 1, 0]);
+}
+
+/// The check on it: the price counts twice; at 149 bidder 3's edge is bare, at 99 bidder 1's
+/// too. There is a cell for the item, not for its places; a gain's place counts from there.
+#[test]
+fn a_double_kettle_checked() {
+    let mut seen = Tally::default();
+    let both = &mut double(&mut seen).both;
+    let [matching, price, gain] = DOUBLE.map(|list| list.to_vec());
+    let own = Claim { matching, price, gain, slack: HALF };
+    assert_eq!(both.check(&own), Ok(Ok(Totals { weight: 270, sum: 2 * 220 + 140 })));
+    let with = |price: &[u64]| Claim { price: price.to_vec(), ..own.clone() };
+    assert_eq!(both.check(&with(&[221])), Ok(Ok(Totals { weight: 270, sum: 582 })));
+    assert_eq!(both.check(&with(&[150])), Ok(Ok(Totals { weight: 270, sum: 440 })));
+    assert_eq!(both.check(&with(&[149])), Ok(refuse(BARE, 3)));
+    assert_eq!(both.check(&with(&[99])), Ok(refuse(BARE, 1)));
+    assert_eq!(both.check(&with(&[220, 220])), Ok(refuse(UNEVEN, 0)));
+    assert_eq!(both.check(&with(&[MAX_PRICE + 1])), Ok(refuse(PRICE, 1)));
+    let named = Claim { matching: vec![1, 1, 1], ..own.clone() };
+    assert_eq!(both.check(&named), Ok(refuse(CLASH, 3)));
+    let high = Claim { gain: vec![0, MAX_PRICE + 1, 0], ..own };
+    assert_eq!(both.check(&high), Ok(refuse(PRICE, 1 + 2)));
 }
 
 /// Of equal ones an item's places are taken from the lowest on, then the next item's.

@@ -98,16 +98,16 @@ fn by_place(auction: &Auction) -> Vec<Vec<u64>> {
     auction.items.iter().map(|item| item.prices.clone()).collect()
 }
 
-/// One item of two places at 1/2, and worths of 100, 80 and 90. The second takes the second
-/// place; the third finds 180 - 80 there, above 90, and 180 - 100 at the first, which is not
-/// open.
+/// One item of two places at 1/2, and worths of 100, 120 and 150. The first has the first place
+/// without lead. The second finds 240 at the second place and 140 at the first; the third finds
+/// 200 at the first, above 150, and 80 at the second, which is not open.
 fn double() -> Auction {
     let mut auction = open(&[2]).expect("it opens");
     assert_eq!(arrive(&mut auction, &[(1, 100)]), 1);
-    assert_eq!(by_place(&auction), [[100, 0]]);
-    assert_eq!(arrive(&mut auction, &[(1, 80)]), 1);
-    assert_eq!(by_place(&auction), [[100, 80]]);
-    assert_eq!(arrive(&mut auction, &[(1, 90)]), 1);
+    assert_eq!((by_place(&auction), auction.gains()), (vec![vec![100, 0]], vec![200]));
+    assert_eq!(arrive(&mut auction, &[(1, 120)]), 1);
+    assert_eq!((by_place(&auction), auction.gains()), (vec![vec![100, 220]], vec![200, 140]));
+    assert_eq!(arrive(&mut auction, &[(1, 150)]), 1);
     auction
 }
 
@@ -116,12 +116,12 @@ fn double() -> Auction {
 #[test]
 fn a_double_kettle() {
     let auction = double();
-    assert_eq!((auction.matching(), by_place(&auction)), (vec![1, 0, 1], vec![vec![100, 170]]));
-    assert_eq!((auction.prices(), auction.gains()), (vec![100], vec![200, 0, 100]));
-    assert_eq!((auction.weight(), auction.sum()), (190, 3 * 190));
+    assert_eq!((auction.matching(), by_place(&auction)), (vec![0, 1, 1], vec![vec![450, 220]]));
+    assert_eq!((auction.prices(), auction.gains()), (vec![220], vec![0, 140, 0]));
+    assert_eq!((auction.weight(), auction.sum()), (270, 3 * 270));
     let totals = check(&auction, &claim::own(&auction));
-    assert_eq!(totals, Ok(Totals { weight: 190, sum: 2 * 100 + 300 }));
-    assert_eq!(solve(&auction.live_weights(), &[2]).weight, 190);
+    assert_eq!(totals, Ok(Totals { weight: 270, sum: 2 * 220 + 140 }));
+    assert_eq!(solve(&auction.live_weights(), &[2]).weight, 270);
 }
 
 /// "A withdrawal removes all places".
@@ -149,36 +149,38 @@ fn ties_between_places() {
     assert_eq!(auction.matching(), [1, 1, 2, 3, 3, 3, 0]);
 }
 
-/// At 1/10 places of 0 and 100 at item 1, of 100 at item 2: 50 at item 1 has the utility of
-/// 60 at item 2, whose larger worth is taken; then 50 at item 1 has the utility of 50 at the
-/// free place of item 1 alone.
+/// At 1/10 places of 1,000 and 0 at item 1, of 100 at item 2: 50 at item 1 has the utility of
+/// 60 at item 2, whose larger worth is taken, without lead; its holder goes to item 3.
 #[test]
 fn the_larger_worth_comes_before_the_lower_place() {
     let slack = Slack { p: 1, q: 10 };
-    let mut auction = Auction::open_places(2, slack, &[2, 1]).expect("it opens");
+    let mut auction = Auction::open_places(3, slack, &[2, 1, 1]).expect("it opens");
     assert_eq!(arrive(&mut auction, &[(1, 1_000)]), 1);
-    assert_eq!(arrive(&mut auction, &[(2, 100)]), 1);
-    assert_eq!(by_place(&auction), [vec![1_000, 0], vec![100]]);
-    assert_eq!(arrive(&mut auction, &[(1, 50), (2, 60)]), 3);
+    assert_eq!(arrive(&mut auction, &[(2, 10), (3, 1)]), 1);
+    assert_eq!(by_place(&auction), [vec![1_000, 0], vec![100], vec![0]]);
+    assert_eq!(arrive(&mut auction, &[(1, 50), (2, 60)]), 2);
     assert_eq!(
         (auction.matching(), by_place(&auction)),
-        (vec![1, 2, 1], vec![vec![1_000, 50], vec![260]])
+        (vec![1, 3, 2], vec![vec![1_000, 0], vec![160], vec![11]])
     );
+    assert_eq!(auction.gains(), [10_000, 0, 500]);
 }
 
-/// A batch compares places: the cheaper is taken though it is the higher.
+/// A batch compares places: the cheaper is taken though it is the higher, and the other is the
+/// second. The third of the places has 160 for it, which is not above 200.
 #[test]
 fn the_cheapest_place() {
     let mut auction = open(&[3]).expect("it opens");
     for weight in [100, 90, 80] {
         assert_eq!(arrive(&mut auction, &[(1, weight)]), 1);
     }
-    assert_eq!(by_place(&auction), [[100, 90, 80]]);
+    assert_eq!(by_place(&auction), [[100, 90, 240]]);
     assert_eq!(arrive(&mut auction, &[(1, 200)]), 1);
     assert_eq!(
         (auction.matching(), by_place(&auction)),
-        (vec![1, 1, 0, 1], vec![vec![100, 90, 280]])
+        (vec![1, 0, 1, 1], vec![vec![100, 300, 240]])
     );
+    assert_eq!(auction.gains(), [200, 0, 0, 300]);
 }
 
 /// Bidder 3 has the first place of item 1, from which it displaced bidder 1, and bidder 2 the
@@ -190,19 +192,19 @@ fn crossed() -> Auction {
     assert_eq!(arrive(&mut auction, &[(1, 100), (2, 20)]), 1);
     assert_eq!(
         (auction.holders(1), by_place(&auction)),
-        (vec![2, 1], vec![vec![120, 60], vec![0]])
+        (vec![2, 1], vec![vec![180, 80], vec![0]])
     );
     auction
 }
 
-/// "with displaced batches in R-3's order": bidder 2 bids first and has item 2; 40 - 20 is not
-/// above 20 for bidder 3.
+/// "with displaced batches in R-3's order": bidder 2 bids first and has item 2, for 60, which is
+/// above 40 for bidder 3.
 #[test]
 fn displaced_in_number_order() {
     let mut auction = crossed();
     assert_eq!(auction.withdraw(&[1]), Ok(1));
-    assert_eq!((auction.matching(), auction.gains()), (vec![0, 2, 0], vec![0, 40, 0]));
-    assert_eq!((auction.prices(), auction.sum()), (vec![0, 20], 60));
+    assert_eq!((auction.matching(), auction.gains()), (vec![0, 2, 0], vec![0, 0, 0]));
+    assert_eq!((auction.prices(), auction.sum()), (vec![0, 60], 60));
     for (order, matching) in [(Order::Item, [0, 0, 2]), (Order::PlaceByPlace, [0, 2, 0])] {
         let mut walk = Walk::on(crossed(), by_pairs);
         walk.withdraw(&[1], order);

@@ -349,16 +349,17 @@ fn boards_of_refused_texts() {
 
 // ---- what is printed
 
-/// Worked by hand: an item of two places and one of one, and all that leave.
+/// Worked by hand: an item of two places and one of one, and all that leave. Of the double one
+/// the second finds 240 and 140, the third 200 at the first place, where it displaces the first.
 #[test]
 fn texts_by_hand() {
     let mut seen = Tally::default();
-    let double = "K\t1\t1\t2\nP\t1\t2\nA\t1\t100\nA\t1\t80\nA\t1\t90\n";
-    let double_out = "P\t1\t1\t200\nP\t2\t0\t0\nP\t3\t1\t100\nY\t1\t100\nT\t190\t570\t3\nE\t190\n";
+    let double = "K\t1\t1\t2\nP\t1\t2\nA\t1\t100\nA\t1\t120\nA\t1\t150\n";
+    let double_out = "P\t1\t0\t0\nP\t2\t1\t140\nP\t3\t1\t0\nY\t1\t220\nT\t270\t810\t3\nE\t270\n";
     let crossed = "K\t2\t1\t2\nP\t1\t2\nA\t1\t20\nA\t1\t60\t2\t20\nA\t1\t100\t2\t20\n";
     let crossed_out =
-        "P\t1\t0\t0\nP\t2\t1\t120\nP\t3\t1\t180\nY\t1\t60\nY\t2\t0\nT\t160\t480\t3\nE\t160\n";
-    let left_out = "P\t1\t0\t0\nP\t2\t2\t40\nP\t3\t0\t0\nY\t2\t20\nT\t20\t60\t4\nE\t20\n";
+        "P\t1\t0\t0\nP\t2\t1\t100\nP\t3\t1\t120\nY\t1\t80\nY\t2\t0\nT\t160\t480\t3\nE\t160\n";
+    let left_out = "P\t1\t0\t0\nP\t2\t2\t0\nP\t3\t0\t0\nY\t2\t60\nT\t20\t60\t4\nE\t20\n";
     for (text, printed) in [
         (double.to_string(), double_out),
         (crossed.to_string(), crossed_out),

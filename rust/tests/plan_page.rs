@@ -10,7 +10,7 @@ use std::process::Command;
 use std::sync::Once;
 
 const PAGE_1: &str =
-    "BAT KT   WORTH       GAIN\n  1  2      60        600\n  2  1      90        420\n";
+    "BAT KT   WORTH       GAIN\n  1  2      60          0\n  2  1      90          0\n";
 
 /// The tree's own ./plan with --page, with its program built.
 fn own_page(arguments: &[&str], text: &[u8]) -> Came {

@@ -13,7 +13,7 @@ use std::thread::sleep;
 use std::time::Duration;
 
 const CASE_1: &[u8] = b"K\t2\t1\t10\nA\t1\t100\t2\t60\nA\t1\t90\n";
-const PLAN_1: &str = "P\t1\t2\t600\nP\t2\t1\t420\nY\t1\t570\nY\t2\t60\nT\t150\t1650\t7\nE\t150\n";
+const PLAN_1: &str = "P\t1\t2\t0\nP\t2\t1\t0\nY\t1\t990\nY\t2\t660\nT\t150\t1650\t3\nE\t150\n";
 const TOO_LONG: &str = "R\t15\t0\n";
 const UNREAD: &str = "sheet: input cannot be read\n";
 const LOST: &str = "sheet: output lost\n";

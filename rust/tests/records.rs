@@ -32,6 +32,15 @@ fn live_arrival(rng: &mut Rng, auction: &Auction) -> Vec<Edge> {
     edges
 }
 
+/// No price and no gain of a sound record is above 2,000,000,000, so that the check takes
+/// what is read out: gain and price are (q + p) × w at most, below 2,000 × 1,000,000.
+fn assert_own_lists(record: &Record, auction: &Auction) {
+    let most = record.price.iter().chain(&record.gain).max().expect("a cell");
+    assert!(*most <= MAX_PRICE, "{most}");
+    let totals = check_record(record, &claim::own(auction)).expect("the auction's own lists");
+    assert_eq!(totals.weight, auction.weight());
+}
+
 #[test]
 fn sound_records_are_served() {
     let mut rng = Rng::new(11);
@@ -42,7 +51,8 @@ fn sound_records_are_served() {
         let auction = from_record(&record).unwrap();
         assert_eq!(to_record(&auction), record);
         share_holds(&auction);
-        high += record.price.iter().any(|&y| y > MAX_PRICE) as u64;
+        high += record.price.iter().any(|&y| y > 1_000_000_000) as u64;
+        assert_own_lists(&record, &auction);
         if auction.bidders.len() < MAX_BIDDERS {
             arrive_record(&mut record, &live_arrival(&mut rng, &auction)).unwrap();
             assert!(is_sound(&record));
@@ -55,7 +65,7 @@ fn sound_records_are_served() {
         withdrawals += !items.is_empty() as u64;
         share_holds(&from_record(&record).unwrap());
     }
-    println!("{high} records with a price above the check's limit");
+    println!("{high} records with a price above the check's limit of before R-7");
     assert!(high > 100 && arrivals > 1_000 && withdrawals > 1_000);
 }
 
@@ -170,11 +180,11 @@ fn met(r: &Record, c: &Claim) -> Vec<Refusal> {
             note(cell_clashes(r, c, b), CLASH, b + 1);
         }
         for i in 0..items {
-            note(c.price[i] > 1_000_000_000, PRICE, i + 1);
+            note(c.price[i] > 2_000_000_000, PRICE, i + 1);
             note(r.is_gone(i) && c.price[i] > 0, PRICE, i + 1);
         }
         for b in 0..bidders {
-            note(c.gain[b] > 1_000_000_000, PRICE, items + b + 1);
+            note(c.gain[b] > 2_000_000_000, PRICE, items + b + 1);
         }
         for (b, i) in (0..bidders).flat_map(|b| (0..items).map(move |i| (b, i))) {
             let paid = c.gain[b] as u128 + c.price[i] as u128;

@@ -1,7 +1,7 @@
-//! The proved calls beside bids as the slides have them. R-5 of document 02: "These four
-//! steps in turn, however it is done now, must be shown equal to the bid as defined until
-//! now, at every bid of every call on a sound board." After every call the bids, the
-//! matching, the prices and the gains are equal; so they are after whole texts.
+//! The proved calls beside bids as the slides have them, raised by the lead of R-7. R-5 of
+//! document 02: "These four steps in turn, however it is done now, must be shown equal to the
+//! bid as defined until now, at every bid of every call on a sound board." After every call
+//! the bids, the matching, the prices and the gains are equal; so they are after whole texts.
 
 use noughtelm_tests::both::{board, equal, record, shown, Same};
 use noughtelm_tests::ffi::{self, Told};
@@ -46,7 +46,7 @@ fn run_kind(kind: Kind, count: u64) -> Met {
 #[test]
 fn histories_of_many_sizes() {
     for (kind, count) in
-        [(Kind::Small, 1_500), (Kind::Sparse, 150), (Kind::Dense, 60), (Kind::Withdrawals, 150)]
+        [(Kind::Small, 4_000), (Kind::Sparse, 300), (Kind::Dense, 150), (Kind::Withdrawals, 300)]
     {
         let met = run_kind(kind, count);
         assert!(met.bids > 3_000 && met.displaced > 1_000 && met.parts > 1_000 && met.ends > 500);
@@ -55,8 +55,8 @@ fn histories_of_many_sizes() {
 
 #[test]
 fn histories_full_of_ties() {
-    let met = run_kind(Kind::Ties, 600);
-    assert!(met.full > 1_000 && met.bar > 3_000 && met.decides > 1_000);
+    let met = run_kind(Kind::Ties, 2_000);
+    assert!(met.full > 1_000 && met.bar > 3_000 && met.decides > 1_000 && met.seconds > 1_500);
     let met = run_kind(Kind::EqualUtility, 600);
     assert!(met.weights > 1_500 && met.lower > 600 && met.full > 1_200 && met.decides > 300);
 }
@@ -71,7 +71,7 @@ fn histories_at_the_limits() {
 /// Several displaced at once, who displace others.
 #[test]
 fn histories_of_lists() {
-    let met = run_kind(Kind::Lists, 200);
+    let met = run_kind(Kind::Lists, 700);
     assert!(met.several > 150 && met.displaced > 10_000 && met.weights > 100);
 }
 
@@ -80,13 +80,14 @@ fn histories_of_lists() {
 #[test]
 fn histories_of_places() {
     for (kind, count) in [
-        (Kind::Places, 200),
+        (Kind::Places, 250),
         (Kind::PlacesTies, 400),
-        (Kind::PlacesEqualUtility, 400),
-        (Kind::PlacesLists, 150),
+        (Kind::PlacesEqualUtility, 600),
+        (Kind::PlacesLists, 300),
     ] {
         let met = run_kind(kind, count);
         assert!(met.places > 1_000 && met.displaced > 1_000 && met.several > 50);
+        assert!(met.own > 1_000 && met.shut > 150);
     }
     let met = run_kind(Kind::PlacesLimits, 10);
     assert!(met.calls > 1_000 && met.displaced > 500);
@@ -97,7 +98,7 @@ fn histories_of_places() {
 #[test]
 fn histories_near_the_bar() {
     let mut met = Met::default();
-    for seed in 810_000..810_600 {
+    for seed in 810_000..811_000 {
         let history = history_near_the_bar(&mut Rng::new(seed), 1);
         if let Err(found) = run(&history, &mut met) {
             panic!("seed {seed}: {found}\n{history:?}");
@@ -105,12 +106,13 @@ fn histories_near_the_bar() {
     }
     println!("{met:?}");
     assert!(met.bar > 4_000 && met.decides > 2_000 && met.closed > 500 && met.displaced > 1_500);
+    assert!(met.seconds > 2_000 && met.shut > 1_000);
 }
 
 #[test]
 fn histories_of_places_near_the_bar() {
     let mut met = Met::default();
-    for seed in 811_000..811_600 {
+    for seed in 811_000..812_000 {
         let history = history_near_the_bar(&mut Rng::new(seed), 3);
         if let Err(found) = run(&history, &mut met) {
             panic!("seed {seed}: {found}\n{history:?}");
@@ -118,6 +120,7 @@ fn histories_of_places_near_the_bar() {
     }
     println!("{met:?}");
     assert!(met.bar > 4_000 && met.decides > 1_000 && met.closed > 500 && met.places > 1_000);
+    assert!(met.seconds > 2_000 && met.shut > 1_000 && met.own > 1_000);
 }
 
 // ---- sound boards that no history reaches
@@ -127,10 +130,10 @@ fn weight_at(slides: &Slides, u: Place, v: u64) -> Fraction {
     edge.expect("items are allocated along edges").1
 }
 
-/// In every history the gain of a bidder that has an item is above ε times the weight.
+/// In every history the price of a place that is allocated is at least ε times the weight.
 fn is_unreached(slides: &Slides) -> bool {
     let bar = |u: Place, v: u64| slides.epsilon * weight_at(slides, u, v);
-    slides.allocated.iter().any(|(&u, &v)| slides.gains[&v] <= bar(u, v))
+    slides.allocated.iter().any(|(&u, &v)| slides.prices[&u] < bar(u, v))
 }
 
 fn slides_of(b: &ffi::Board) -> Slides {
@@ -158,7 +161,7 @@ fn slides_of(b: &ffi::Board) -> Slides {
 #[test]
 fn sound_boards_that_no_history_reaches() {
     let (mut met, mut unreached) = (Met::default(), 0);
-    for seed in 820_000..820_250 {
+    for seed in 820_000..820_600 {
         let rng = &mut Rng::new(seed);
         let mut ours = board(&sound(rng));
         let mut slides = slides_of(&ours);
@@ -171,7 +174,8 @@ fn sound_boards_that_no_history_reaches() {
         found.unwrap_or_else(|found| panic!("seed {seed}: {found}\n{:?}", record(&ours)));
     }
     println!("{unreached} boards unreached: {met:?}");
-    assert!(unreached > 125 && met.displaced > 10_000 && met.bar > 1_000 && met.decides > 200);
+    assert!(unreached > 250 && met.displaced > 10_000 && met.bar > 1_000 && met.decides > 200);
+    assert!(met.seconds > 300 && met.shut > 500);
 }
 
 // ---- whole texts
@@ -241,8 +245,8 @@ fn texts_of_histories() {
 // ---- by hand
 
 /// A turn in quarters of a penny: the bidder, its open items with their utilities; then
-/// the item picked, its price after the bid, and who had it, 0 for nobody.
-struct Turn(u64, &'static [(u64, i64)], Option<(u64, i64, u64)>);
+/// the item picked, the second utility, the price after the bid, and who had it, 0 for nobody.
+struct Turn(u64, &'static [(u64, i64)], Option<(u64, i64, i64, u64)>);
 
 /// What a call is given.
 enum Given {
@@ -264,55 +268,48 @@ impl Given {
 type Worked = (Given, &'static [Turn], [&'static [u64]; 3]);
 
 /// ε is 1/4. Bidder 1 has the lower of two equal items, bidder 3 the larger of two weights
-/// of equal utility. Bidder 5 finds 20 - 15 = 1/4 · 20 at item 4, which is not open. Then
-/// bidders 2, 4 and 5 are displaced, and bidder 3 finds 3 - 9/4 = 1/4 · 3.
+/// of equal utility, both without lead. Bidders 4 and 5 find 9 - 27/4 = 1/4 · 9 at item 2,
+/// which is not open: bidder 4 does not take it, though it has less at item 3, and for
+/// neither is it the second. Then bidders 2 and 5 are displaced, and find items 2 and 3.
 const WORKED: [Worked; 6] = [
     (
         Given::Edges(&[(1, 8), (2, 8)]),
-        &[Turn(1, &[(1, 32), (2, 32)], Some((1, 8, 0)))],
+        &[Turn(1, &[(1, 32), (2, 32)], Some((1, 32, 8, 0)))],
         [&[1], &[8, 0, 0, 0], &[32]],
     ),
     (
         Given::Edges(&[(1, 13), (2, 12), (3, 6)]),
-        &[Turn(2, &[(1, 44), (2, 48), (3, 24)], Some((2, 12, 0)))],
-        [&[1, 2], &[8, 12, 0, 0], &[32, 48]],
+        &[Turn(2, &[(1, 44), (2, 48), (3, 24)], Some((2, 44, 16, 0)))],
+        [&[1, 2], &[8, 16, 0, 0], &[32, 44]],
     ),
     (
-        Given::Edges(&[(1, 10), (2, 11), (3, 3)]),
+        Given::Edges(&[(1, 9), (2, 11), (3, 5)]),
         &[
-            Turn(3, &[(1, 32), (2, 32), (3, 12)], Some((2, 23, 2))),
-            Turn(2, &[(1, 44), (2, 25), (3, 24)], Some((1, 21, 1))),
-            Turn(1, &[(1, 11), (2, 9)], Some((1, 29, 2))),
-            Turn(2, &[(1, 23), (2, 25), (3, 24)], Some((2, 35, 3))),
-            Turn(3, &[(1, 11), (3, 12)], Some((3, 3, 0))),
-        ],
-        [&[1, 2, 3], &[29, 35, 3, 0], &[11, 25, 12]],
-    ),
-    (
-        Given::Edges(&[(3, 4), (4, 60)]),
-        &[Turn(4, &[(3, 13), (4, 240)], Some((4, 60, 0)))],
-        [&[1, 2, 3, 4], &[29, 35, 3, 60], &[11, 25, 12, 240]],
-    ),
-    (
-        Given::Edges(&[(2, 13), (3, 5), (4, 20)]),
-        &[
-            Turn(5, &[(2, 17), (3, 17)], Some((2, 48, 2))),
-            Turn(2, &[(1, 23), (3, 21)], Some((1, 42, 1))),
+            Turn(3, &[(1, 28), (2, 28), (3, 20)], Some((2, 28, 27, 2))),
+            Turn(2, &[(1, 44), (2, 21), (3, 24)], Some((1, 24, 41, 1))),
             Turn(1, &[], None),
         ],
-        [&[0, 1, 3, 4, 2], &[42, 48, 3, 60], &[0, 23, 12, 240, 17]],
+        [&[0, 1, 2], &[41, 27, 0, 0], &[0, 24, 28]],
     ),
     (
-        Given::Items(&[1, 2, 4]),
+        Given::Edges(&[(2, 9), (3, 2)]),
+        &[Turn(4, &[(3, 8)], Some((3, 0, 10, 0)))],
+        [&[0, 1, 2, 3], &[41, 27, 10, 0], &[0, 24, 28, 0]],
+    ),
+    (
+        Given::Edges(&[(2, 9), (4, 20)]),
+        &[Turn(5, &[(4, 80)], Some((4, 0, 100, 0)))],
+        [&[0, 1, 2, 3, 4], &[41, 27, 10, 100], &[0, 24, 28, 0, 0]],
+    ),
+    (
+        Given::Items(&[1, 4]),
         &[
-            Turn(2, &[(3, 21)], Some((3, 9, 3))),
-            Turn(3, &[], None),
-            Turn(4, &[(3, 7)], Some((3, 13, 2))),
-            Turn(2, &[(3, 11)], Some((3, 19, 4))),
+            Turn(2, &[(2, 21), (3, 14)], Some((2, 14, 46, 3))),
+            Turn(3, &[(3, 10)], Some((3, 0, 25, 4))),
             Turn(4, &[], None),
             Turn(5, &[], None),
         ],
-        [&[0, 3, 0, 0, 0], &[0, 0, 19, 0], &[0, 11, 0, 0, 0]],
+        [&[0, 2, 3, 0, 0], &[0, 46, 25, 0], &[0, 14, 0, 0, 0]],
     ),
 ];
 
@@ -324,14 +321,15 @@ fn turn_by_hand(slides: &mut Slides, &Turn(v, offers, taken): &Turn) {
     let expected: Vec<_> = offers.iter().map(|&(u, utility)| (u, quarters(utility))).collect();
     assert_eq!(open.iter().map(|uv| (uv.place.0, uv.utility)).collect::<Vec<_>>(), expected);
     let picked = Slides::pick(&open);
-    assert_eq!(picked.map(|uv| uv.place), taken.map(|(u, _, _)| (u, 1)));
-    let Some((picked, (u, price, had))) = picked.zip(taken) else { return };
+    assert_eq!(picked.map(|it| it.offer.place), taken.map(|(u, ..)| (u, 1)));
+    let Some((picked, (u, second, price, had))) = picked.zip(taken) else { return };
+    assert_eq!(picked.second, quarters(second));
     let u = (u, 1);
     slides.price(picked);
     assert_eq!(slides.prices[&u], quarters(price));
     assert_eq!(slides.allocated.get(&u).map_or(0, |&v| v), had, "not handed over yet");
     slides.hand_over(v, picked);
-    assert_eq!((slides.allocated[&u], slides.gains[&v]), (v, picked.utility));
+    assert_eq!((slides.allocated[&u], slides.gains[&v]), (v, quarters(second)));
     assert!(had == 0 || slides.waiting.front() == Some(&had) && !slides.gains.contains_key(&had));
 }
 

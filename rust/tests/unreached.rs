@@ -6,16 +6,14 @@ use noughtelm_tests::ffi::MAX_PAGE;
 use noughtelm_tests::gen::{board, claim, items, list, plan};
 use noughtelm_tests::laws::on_board;
 use noughtelm_tests::model::auction::*;
-use noughtelm_tests::model::check::{Claim, MAX_PRICE};
+use noughtelm_tests::model::check::Claim;
 use noughtelm_tests::model::refusal::*;
 use noughtelm_tests::model::sound::{from_record, Record};
 use noughtelm_tests::rng::Rng;
 
-/// In every history the gain of a placed bidder is above p times the weight.
+/// In every history the price of a held place is at least p times the weight.
 fn is_unreached(r: &Record) -> bool {
-    let held = r.holder.iter().enumerate().filter(|(_, &holder)| holder != 0);
-    held.map(|(item, &holder)| (holder as usize - 1, item))
-        .any(|(bidder, item)| r.gain[bidder] <= r.slack.p * r.rows[bidder][item] as u64)
+    r.pairs().any(|(bidder, place)| r.price[place] < r.slack.p * r.rows[bidder][place] as u64)
 }
 
 fn live_arrival(rng: &mut Rng, r: &Record) -> Vec<Edge> {
@@ -80,7 +78,7 @@ fn try_boards(seeds: std::ops::Range<u64>) -> (Tally, u64, u64) {
         let rng = &mut Rng::new(seed);
         let record = board::sound(rng);
         unreached += is_unreached(&record) as u64;
-        high += record.price.iter().any(|&y| y > MAX_PRICE) as u64;
+        high += record.price.iter().any(|&y| y > 1_000_000_000) as u64;
         let mut both = Both::on(record.clone(), &mut seen);
         let found = look(&mut both, rng).and_then(|_| change(&mut both, rng));
         if let Err(found) = found.and_then(|_| look(&mut both, rng)) {
@@ -91,7 +89,9 @@ fn try_boards(seeds: std::ops::Range<u64>) -> (Tally, u64, u64) {
 }
 
 fn assert_all_seen(boards: u64, (seen, unreached, high): (Tally, u64, u64)) {
-    println!("{unreached} of {boards} unreached, {high} with a high price: {seen:?}");
+    println!(
+        "{unreached} of {boards} unreached, {high} with a price above 1,000,000,000: {seen:?}"
+    );
     assert!(unreached * 2 > boards && high * 20 > boards);
     seen.assert_seen("sound", &[0], boards);
     seen.assert_seen("arrive", &[0, FULL, UNKNOWN, GONE, WORTH, ORDER], 20);

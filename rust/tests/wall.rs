@@ -13,7 +13,7 @@ use std::process::{Command, Stdio};
 
 const CASE_1: &[u8] = b"K\t2\t1\t10\nA\t1\t100\t2\t60\nA\t1\t90\n";
 const PAGE_1: &str =
-    "BAT KT   WORTH       GAIN\n  1  2      60        600\n  2  1      90        420\n";
+    "BAT KT   WORTH       GAIN\n  1  2      60          0\n  2  1      90          0\n";
 const TOO_LONG: &str = "R\t15\t0\n";
 const UNREAD: &str = "wall: input cannot be read\n";
 const LOST: &str = "wall: output lost\n";

@@ -1,7 +1,11 @@
 /* Case 1 of document 01, and cases 2, 7, 8 and 14 after it, by the calls of noughtelm.h. */
 #include "checks.h"
 
-/* Opening and two arrivals. Bids in all: 7. */
+/*
+ * Opening and two arrivals. The first finds 1,000 and 600: the price rises by the lead of 400 and by
+ * 100. The second finds 400 and nothing else; then the first finds 10, which is not open, and 600.
+ * Bids in all: 3.
+ */
 static noughtelm_board by_calls(void)
 {
     const noughtelm_edge first[] = {{1, 100}, {2, 60}};
@@ -20,9 +24,11 @@ static noughtelm_board by_calls(void)
     holds("open, sound", noughtelm_is_sound(opened.board));
     const noughtelm_answer one = noughtelm_arrive(opened.board, first, 2);
     told_is("first arrival", told_of(&one), 0, 0, 1);
+    number_is("first arrival, price 1", one.board.state.price[0], 500);
+    number_is("first arrival, gain 1", one.board.state.gain[0], 600);
     const noughtelm_answer two = noughtelm_arrive(one.board, second, 1);
-    told_is("second arrival", told_of(&two), 0, 0, 6);
-    number_is("bids in all", one.value + two.value, 7);
+    told_is("second arrival", told_of(&two), 0, 0, 2);
+    number_is("bids in all", one.value + two.value, 3);
     number_is("bidders", two.board.market.arrived, 2);
     holds("sound", noughtelm_is_sound(two.board));
     return two.board;
@@ -37,19 +43,19 @@ static void by_buffers(const noughtelm_board *expected)
     buffer.weights[0] = 90;
     buffer.count = 1;
     answer = noughtelm_arrive_buffer(answer.board, buffer);
-    told_is("second buffer", told_of(&answer), 0, 0, 6);
+    told_is("second buffer", told_of(&answer), 0, 0, 2);
     board_is("the board by buffers", &answer.board, expected);
 }
 
 /* The record's own cells. */
 static void cells_of_the_board(const noughtelm_board *board)
 {
-    number_is("price 1", board->state.price[0], 570);
-    number_is("price 2", board->state.price[1], 60);
+    number_is("price 1", board->state.price[0], 990);
+    number_is("price 2", board->state.price[1], 660);
     number_is("holder 1", board->state.holder[0], 2);
     number_is("holder 2", board->state.holder[1], 1);
-    number_is("gain 1", board->state.gain[0], 600);
-    number_is("gain 2", board->state.gain[1], 420);
+    number_is("gain 1", board->state.gain[0], 0);
+    number_is("gain 2", board->state.gain[1], 0);
     number_is("edge 1, 1", board->weights[0], 100);
     number_is("edge 1, 2", board->weights[1], 60);
     number_is("edge 2, 1", board->weights[64], 90);
@@ -66,7 +72,7 @@ static void read_out(const noughtelm_board *board)
 {
     uint64_t lists[] = {9, 9, 9, 9, 9, 9, 9, 9, 9};
     const uint64_t kept[] = {9, 9, 9, 9, 9, 9, 9, 9, 9};
-    const uint64_t printed[] = {2, 1, 9, 570, 60, 9, 600, 420, 9};
+    const uint64_t printed[] = {2, 1, 9, 990, 660, 9, 0, 0, 9};
     told_is("read out, no room", noughtelm_read_out(*board, lists, 3, lists + 3, 1, lists + 6, 3),
             8, 0, 0);
     lists_are("read out, no room", lists, kept);
@@ -104,7 +110,7 @@ static void check(const noughtelm_board *board)
 static void withdraw(const noughtelm_board *board)
 {
     uint64_t lists[] = {9, 9, 9, 9, 9, 9, 9, 9, 9};
-    const uint64_t left[] = {2, 0, 9, 0, 60, 9, 600, 0, 9};
+    const uint64_t left[] = {2, 0, 9, 0, 660, 9, 0, 0, 9};
     const uint64_t first[] = {1};
     const noughtelm_answer gone = noughtelm_withdraw(*board, first, 1);
     told_is("case 2", told_of(&gone), 0, 0, 0);
@@ -139,7 +145,7 @@ static void texts(const noughtelm_board *board)
 {
     uint8_t out[200];
     const noughtelm_answer replayed = noughtelm_replay(TEXT(CASE_1));
-    told_is("replay", told_of(&replayed), 0, 0, 7);
+    told_is("replay", told_of(&replayed), 0, 0, 3);
     board_is("replay, the board", &replayed.board, board);
     memset(out, 7, sizeof out);
     told_is("plan, short", noughtelm_plan_text(TEXT(CASE_1), out, LENGTH_1 - 1), 8, 0, 0);
@@ -166,7 +172,7 @@ static void refused_texts(const noughtelm_board *board)
     uint8_t out[200];
     const noughtelm_board gone = without(*board, 1);
     const noughtelm_answer replayed = noughtelm_replay(TEXT(REFUSED));
-    told_is("refused replay", told_of(&replayed), 5, 5, 7);
+    told_is("refused replay", told_of(&replayed), 5, 5, 3);
     board_is("refused replay, the board", &replayed.board, &gone);
     memset(out, 7, sizeof out);
     told_is("refused plan", noughtelm_plan_text(TEXT(REFUSED), out, sizeof out), 5, 5, 0);

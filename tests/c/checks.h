@@ -89,9 +89,9 @@ static inline int all_checks(void)
     return failed > 0 || passed == 0;
 }
 
-/* Document 01's text, and what is printed of it. */
+/* Document 01's text, and what is printed of it by the bid of document 02, R-7. */
 #define CASE_1 "K\t2\t1\t10\nA\t1\t100\t2\t60\nA\t1\t90\n"
-#define PRINTED_1 "P\t1\t2\t600\nP\t2\t1\t420\nY\t1\t570\nY\t2\t60\nT\t150\t1650\t7\nE\t150\n"
+#define PRINTED_1 "P\t1\t2\t0\nP\t2\t1\t0\nY\t1\t990\nY\t2\t660\nT\t150\t1650\t3\nE\t150\n"
 
 /* The bytes of a string, without the 0 at its end: a list and its number of cells. */
 #define TEXT(string) (const uint8_t *)(string), sizeof(string) - 1

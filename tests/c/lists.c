@@ -2,25 +2,28 @@
 #include "checks.h"
 
 /*
- * Five items at 1/2. Bidders 1, 2 and 3 hold items 2, 1 and 3; all of them want item 3, and
- * bidders 1 and 3 item 4, bidder 3 item 5.
+ * Five items at 1/4. Bidders 1, 2 and 3 hold items 2, 1 and 3; all of them want items 3 and 4, and
+ * bidder 3 item 5.
  */
 static noughtelm_board board(void)
 {
-    const noughtelm_edge first[] = {{2, 100}, {3, 50}, {4, 40}};
-    const noughtelm_edge second[] = {{1, 200}, {3, 100}};
-    const noughtelm_edge third[] = {{3, 10}, {4, 8}, {5, 5}};
-    noughtelm_board board = open_ones(5, 1, 2).board;
+    const noughtelm_edge first[] = {{2, 50}, {3, 50}, {4, 10}};
+    const noughtelm_edge second[] = {{1, 100}, {3, 100}, {4, 20}};
+    const noughtelm_edge third[] = {{3, 15}, {4, 5}, {5, 5}};
+    noughtelm_board board = open_ones(5, 1, 4).board;
     board = noughtelm_arrive(board, first, 3).board;
-    board = noughtelm_arrive(board, second, 2).board;
+    board = noughtelm_arrive(board, second, 3).board;
     return noughtelm_arrive(board, third, 3).board;
 }
 
-/* "All go first; then the displaced batches bid in number order, each chain run to its end". */
+/*
+ * "All go first; then the displaced batches bid in number order, each chain run to its end": bidder 1
+ * and whom it displaces, 3; then bidder 2, which finds 190 at item 3 and 75 at item 4, and 1 and 3.
+ */
 static void several(void)
 {
     const uint64_t expected[] = {1, 2}, plan[] = {4, 3, 5};
-    const uint64_t prices[] = {0, 0, 160, 48, 5}, gains[] = {72, 140, 10};
+    const uint64_t prices[] = {0, 0, 425, 50, 25}, gains[] = {0, 75, 0};
     uint64_t items[] = {1, 2}, m[3], y[5], g[3];
     const noughtelm_answer after = noughtelm_withdraw(board(), items, 2);
     told_is("several", told_of(&after), 0, 0, 5);
@@ -79,9 +82,10 @@ static void all(void)
 /* A list as a line: the same board and bids, and what is printed of it. */
 static void line(void)
 {
-#define FIVE "K\t5\t1\t2\nA\t2\t100\t3\t50\t4\t40\nA\t1\t200\t3\t100\nA\t3\t10\t4\t8\t5\t5\n"
+#define FIVE                                                                                       \
+    "K\t5\t1\t4\nA\t2\t50\t3\t50\t4\t10\nA\t1\t100\t3\t100\t4\t20\nA\t3\t15\t4\t5\t5\t5\n"
 #define PRINTED                                                                                    \
-    "P\t1\t4\t72\nP\t2\t3\t140\nP\t3\t5\t10\nY\t3\t160\nY\t4\t48\nY\t5\t5\nT\t145\t435\t8\nE\t145\n"
+    "P\t1\t4\t0\nP\t2\t3\t75\nP\t3\t5\t0\nY\t3\t425\nY\t4\t50\nY\t5\t25\nT\t115\t575\t8\nE\t115\n"
     const uint64_t items[] = {1, 2};
     uint8_t out[200];
     const noughtelm_answer called = noughtelm_withdraw(board(), items, 2);

@@ -1,13 +1,19 @@
-/* The page for the kitchen wall (document 02, R-2), by the calls of noughtelm.h: of case 1's board with an unplaced bidder more. */
+/*
+ * The page for the kitchen wall (document 02, R-2), by the calls of noughtelm.h. Bidder 1 finds 1,000
+ * and 600, bidder 2 900 and 500, each the greater at an item of its own; bidder 3 is unplaced.
+ */
 #include "checks.h"
 
 #define HEADING "BAT KT   WORTH       GAIN\n"
-#define PAGE HEADING "  1  2      60        600\n  2  1      90        420\n  3 --       0          0\n"
+#define EVENING "K\t3\t1\t10\nA\t1\t100\t2\t60\nA\t2\t90\t3\t50\nA\n"
+#define PAGE HEADING "  1  1     100        600\n  2  2      90        500\n  3 --       0          0\n"
 #define BYTES (sizeof(PAGE) - 1)
+#define PAGE_1 HEADING "  1  2      60          0\n  2  1      90          0\n"
+#define BYTES_1 (sizeof(PAGE_1) - 1)
 
 static noughtelm_board board(void)
 {
-    return noughtelm_replay(TEXT(CASE_1 "A\n")).board;
+    return noughtelm_replay(TEXT(EVENING)).board;
 }
 
 static void writing(void)
@@ -31,7 +37,7 @@ static void writing(void)
 
 static void reading(void)
 {
-    const uint64_t items[] = {2, 1, 0, 7}, worths[] = {60, 90, 0, 7}, most[] = {600, 420, 0, 7};
+    const uint64_t items[] = {1, 2, 0, 7}, worths[] = {100, 90, 0, 7}, most[] = {600, 500, 0, 7};
     uint64_t plan[] = {7, 7, 7, 7}, weights[] = {7, 7, 7, 7}, gains[] = {7, 7, 7, 7};
     const uint64_t kept[] = {7, 7, 7, 7};
     told_is("14, empty", noughtelm_read_page(NULL, 0, NULL, 0, NULL, 0, NULL, 0), 14, 1, 0);
@@ -60,8 +66,10 @@ static void too_long(void)
 static void of_a_text(void)
 {
     uint8_t out[NOUGHTELM_MAX_PAGE];
-    told_is("a text's page", noughtelm_page_text(TEXT(CASE_1 "A\n"), out, sizeof out), 0, 0, BYTES);
+    told_is("a text's page", noughtelm_page_text(TEXT(EVENING), out, sizeof out), 0, 0, BYTES);
     bytes_are("a text's page", out, PAGE, BYTES);
+    told_is("case 1's page", noughtelm_page_text(TEXT(CASE_1), out, sizeof out), 0, 0, BYTES_1);
+    bytes_are("case 1's page", out, PAGE_1, BYTES_1);
     told_is("a refused text", noughtelm_page_text(TEXT("K\t0\t1\t2\n"), out, sizeof out), 0, 0, 6);
     bytes_are("a refused text", out, "R\t1\t1\n", 6);
     told_is("8 of a text", noughtelm_page_text(TEXT("K\t1\t1\t2\n"), out, 25), 8, 0, 0);

@@ -62,13 +62,14 @@ static void openings_served(void)
 }
 
 /*
- * One item of two places at 1/2, and bidders with weights of 100, 80 and 90. The first takes the
- * first place, the second the other. The third finds 180 - 80 there, above 90, and displaces the
- * second, which finds nothing open.
+ * One item of two places at 1/2, and bidders with weights of 100, 120 and 150. The first takes the
+ * first place, without lead. The second finds 240 at the other, and 140 at the first. The third finds
+ * 200 at the first, above 150, and 80 at the other, which is not open; it displaces the first, which
+ * finds nothing open.
  */
 static noughtelm_board double_item(void)
 {
-    const uint64_t counts[] = {2}, weights[] = {100, 80, 90};
+    const uint64_t counts[] = {2}, weights[] = {100, 120, 150};
     noughtelm_board board = noughtelm_open(1, 1, 2, counts, 1).board;
     for (int i = 0; i < 3; i++) {
         const noughtelm_edge edges[] = {{1, weights[i]}};
@@ -86,12 +87,12 @@ static void cells_of_the_board(void)
     number_is("items", board.items.count, 1);
     number_is("places of the item", board.items.places[0], 2);
     number_is("places in all", board.market.items, 2);
-    number_is("price of place 1", board.state.price[0], 100);
-    number_is("price of place 2", board.state.price[1], 170);
-    number_is("holder of place 1", board.state.holder[0], 1);
-    number_is("holder of place 2", board.state.holder[1], 3);
+    number_is("price of place 1", board.state.price[0], 450);
+    number_is("price of place 2", board.state.price[1], 220);
+    number_is("holder of place 1", board.state.holder[0], 3);
+    number_is("holder of place 2", board.state.holder[1], 2);
     for (int i = 0; i < 3; i++) {
-        const uint32_t weights[] = {100, 80, 90};
+        const uint32_t weights[] = {100, 120, 150};
         number_is("edge at place 1", board.weights[64 * i], weights[i]);
         number_is("edge at place 2", board.weights[64 * i + 1], weights[i]);
         number_is("no edge", board.weights[64 * i + 2], 0);
@@ -102,31 +103,31 @@ static void cells_of_the_board(void)
 static void lists(void)
 {
     const noughtelm_board board = double_item();
-    const uint64_t plan[] = {1, 0, 1, 9}, gains[] = {200, 0, 100, 9}, price[] = {100, 9};
-    const uint64_t thrice[] = {1, 1, 1}, dearer[] = {101}, bare[] = {79};
+    const uint64_t plan[] = {0, 1, 1, 9}, gains[] = {0, 140, 0, 9}, price[] = {220, 9};
+    const uint64_t thrice[] = {1, 1, 1}, dearer[] = {221}, bare[] = {149};
     uint64_t m[] = {9, 9, 9, 9}, y[] = {9, 9}, g[] = {9, 9, 9, 9};
     told_is("8, no price", noughtelm_read_out(board, m, 4, y, 0, g, 4), 8, 0, 0);
     told_is("read out", noughtelm_read_out(board, m, 4, y, 2, g, 4), 0, 0, 0);
     cells_are("plan", m, plan, 4);
     cells_are("price", y, price, 2);
     cells_are("gains", g, gains, 4);
-    /* 2 * 100 + 300 is less than 3 * 190, the sum of every place's price and the gains. */
-    totals_are("check", noughtelm_check(board, m, 3, y, 1, g, 3, 1, 2), 0, 0, 190, 500);
-    totals_are("a penny more", noughtelm_check(board, m, 3, dearer, 1, g, 3, 1, 2), 0, 0, 190, 502);
+    /* 2 * 220 + 140 is less than 3 * 270, the sum of every place's price and the gains. */
+    totals_are("check", noughtelm_check(board, m, 3, y, 1, g, 3, 1, 2), 0, 0, 270, 580);
+    totals_are("a penny more", noughtelm_check(board, m, 3, dearer, 1, g, 3, 1, 2), 0, 0, 270, 582);
     totals_are("9, a price per place", noughtelm_check(board, m, 3, y, 2, g, 3, 1, 2), 9, 0, 0, 0);
     totals_are("10, thrice", noughtelm_check(board, thrice, 3, y, 1, g, 3, 1, 2), 10, 3, 0, 0);
-    totals_are("12", noughtelm_check(board, m, 3, bare, 1, g, 3, 1, 2), 12, 2, 0, 0);
-    told_is("exact", noughtelm_exact(board, m, 3, y, 1, g, 3), 0, 0, 190);
+    totals_are("12", noughtelm_check(board, m, 3, bare, 1, g, 3, 1, 2), 12, 3, 0, 0);
+    told_is("exact", noughtelm_exact(board, m, 3, y, 1, g, 3), 0, 0, 270);
     cells_are("exact, plan", m, plan, 3);
-    totals_are("exact, checked", noughtelm_check(board, m, 3, y, 1, g, 3, 0, 1), 0, 0, 190, 190);
+    totals_are("exact, checked", noughtelm_check(board, m, 3, y, 1, g, 3, 0, 1), 0, 0, 270, 270);
 }
 
 /* "A plan may name a kettle once per place". */
 static void plans(void)
 {
     const noughtelm_board board = double_item();
-    const uint64_t best[] = {1, 0, 1}, first[] = {1, 1, 0}, thrice[] = {1, 1, 1};
-    comparison_is("ten pence less", noughtelm_compare(board, first, 3, best, 3), 0, 0, -10,
+    const uint64_t best[] = {0, 1, 1}, first[] = {1, 1, 0}, thrice[] = {1, 1, 1};
+    comparison_is("fifty pence less", noughtelm_compare(board, first, 3, best, 3), 0, 0, -50,
                   NOUGHTELM_LATER);
     comparison_is("the same", noughtelm_compare(board, best, 3, best, 3), 0, 0, 0, NOUGHTELM_SAME);
     comparison_is("10", noughtelm_compare(board, thrice, 3, best, 3), 10, 3, 0, 0);
@@ -135,11 +136,11 @@ static void plans(void)
 
 /*
  * An item of two places and one of one. Bidder 3 has the first place of item 1 and bidder 2 the
- * second; when item 1 leaves, bidder 2 is at item 2 first.
+ * second; when item 1 leaves, bidder 2 is at item 2 first, and raises it to 60.
  */
 static void withdrawal(void)
 {
-    const uint64_t counts[] = {2, 1}, item = 1, plan[] = {0, 2, 0}, prices[] = {0, 20};
+    const uint64_t counts[] = {2, 1}, item = 1, plan[] = {0, 2, 0}, prices[] = {0, 60};
     const noughtelm_edge edges[][2] = {{{1, 20}, {2, 1}}, {{1, 60}, {2, 20}}, {{1, 100}, {2, 20}}};
     uint64_t m[3], y[2], g[3];
     noughtelm_board board = noughtelm_open(2, 1, 2, counts, 2).board;
@@ -163,8 +164,8 @@ static void withdrawal(void)
 /* `P` lines: the board of the call, and what is printed of it. */
 static void texts(void)
 {
-#define DOUBLE "K\t1\t1\t2\nP\t1\t2\nA\t1\t100\nA\t1\t80\nA\t1\t90\n"
-#define PRINTED "P\t1\t1\t200\nP\t2\t0\t0\nP\t3\t1\t100\nY\t1\t100\nT\t190\t570\t3\nE\t190\n"
+#define DOUBLE "K\t1\t1\t2\nP\t1\t2\nA\t1\t100\nA\t1\t120\nA\t1\t150\n"
+#define PRINTED "P\t1\t0\t0\nP\t2\t1\t140\nP\t3\t1\t0\nY\t1\t220\nT\t270\t810\t3\nE\t270\n"
     uint8_t out[200];
     const noughtelm_board board = double_item();
     const noughtelm_answer replayed = noughtelm_replay(TEXT(DOUBLE));
@@ -210,7 +211,7 @@ static void boards_that_are_not_sound(void)
     board.market.items = 3;
     spoilt("a place more", board);
     board = double_item();
-    board.weights[64 + 1] = 79;
+    board.weights[64 + 1] = 119;
     spoilt("another weight at one place", board);
     board.weights[64 + 1] = 0;
     spoilt("no edge at one place", board);

@@ -104,7 +104,7 @@ static void checks(void)
     const uint64_t right[] = {2, 1, 40, 0, 60, 50};
     const uint64_t unknown[] = {3, 1, 40, 0, 60, 50}, twice[] = {1, 1, 40, 0, 60, 50};
     const uint64_t edgeless[] = {0, 2, 40, 0, 60, 50};
-    const uint64_t high[] = {2, 1, 40, 1000000001, 60, 50}, gain[] = {2, 1, 40, 0, 60, 1000000001};
+    const uint64_t high[] = {2, 1, 40, 2000000001, 60, 50}, gain[] = {2, 1, 40, 0, 60, 2000000001};
     const uint64_t bare[] = {2, 1, 40, 0, 60, 49}, left[] = {2, 0, 1, 0, 60, 0};
     claim("10", unknown, 10, 1);
     claim("10, named before", twice, 10, 2);
@@ -117,6 +117,24 @@ static void checks(void)
     totals_are("9, longer", noughtelm_check(board, right, 2, right + 2, 3, right + 4, 2, 0, 1), 9, 0, 0, 0);
     totals_are("10, gone", noughtelm_check(gone, right, 2, right + 2, 2, right + 4, 2, 0, 1), 10, 2, 0, 0);
     totals_are("11, gone", noughtelm_check(gone, left, 2, left + 2, 2, left + 4, 2, 0, 1), 11, 1, 0, 0);
+}
+
+/* A price and a gain of case 1's check are 11 above 2,000,000,000, and served up to that. */
+static void limit(void)
+{
+    const noughtelm_board board = case_1();
+    for (int cell = 2; cell < 6; cell++) {
+        uint64_t lists[] = {2, 1, 100, 60, 100, 90};
+        const uint64_t rest = 350 - lists[cell];
+        lists[cell] = 1000000001;
+        totals_are("11's limit until R-7 and 1", noughtelm_check(board, lists, 2, lists + 2, 2, lists + 4, 2, 0, 1),
+                   0, 0, 150, rest + 1000000001);
+        lists[cell] = NOUGHTELM_MAX_PRICE;
+        totals_are("11's limit", noughtelm_check(board, lists, 2, lists + 2, 2, lists + 4, 2, 0, 1), 0, 0,
+                   150, rest + 2000000000);
+        lists[cell] = (uint64_t)NOUGHTELM_MAX_PRICE + 1;
+        claim("11's limit and 1", lists, 11, (uint64_t)cell - 1);
+    }
 }
 
 /* A text that is refused, by all three calls. */
@@ -171,6 +189,7 @@ int main(void)
     withdrawals();
     full();
     checks();
+    limit();
     texts();
     return all_checks();
 }

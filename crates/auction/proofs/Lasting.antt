@@ -32,14 +32,14 @@ use Rattle.bidding.specs.Withdrawals.{Chains, ended, next}
 pub chain-market : {a c : Auction} {i n : ℕ} → Chain a i c n → c .market ≡ a .market
 unfolding placedAt displaced
 chain-market (stays e) = refl
-chain-market (takes e f) = refl
-chain-market (displaces e f r) = chain-market r
+chain-market (takes e s f) = refl
+chain-market (displaces e s f r) = chain-market r
 
 pub chain-weights : {a c : Auction} {i n : ℕ} → Chain a i c n → c .weights ≡ a .weights
 unfolding placedAt displaced
 chain-weights (stays e) = refl
-chain-weights (takes e f) = refl
-chain-weights (displaces e f r) = chain-weights r
+chain-weights (takes e s f) = refl
+chain-weights (displaces e s f r) = chain-weights r
 
 pub chains-market : {a c : Auction} {xs : List ℕ} {n : ℕ} → Chains a xs c n → c .market ≡ a .market
 chains-market ended = refl

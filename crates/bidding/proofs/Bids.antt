@@ -14,9 +14,10 @@ use Rattle.board.specs.declared.record.Auction.{Auction}
 use Rattle.board.specs.declared.record.Holder.the-variants.{Held, Free}
 use Rattle.board.specs.Cells.{priceAt, holderOf}
 use Rattle.board.specs.Live.{live, matchingOf}
-use Rattle.bidding.specs.Rule.{Chosen, NoneOpen, placedAt, displaced}
+use Rattle.bidding.specs.Rule.{NoneOpen, placedAt, displaced}
 use Rattle.bidding.specs.Waiting.{SoundBut, Admissible}
-use Rattle.bidding.specs.RuleLaws.{FreeBidSound, HeldBidSound}
+use Rattle.bidding.specs.RuleLaws.{PairsWhole, RuleAdmissible, FreeBidSound, HeldBidSound}
+use Rattle.bidding.proofs.Choices.{second-within}
 use Rattle.bidding.proofs.Matchings.{holds, unheld}
 use Rattle.bidding.proofs.Frame.{waits-or, framed, settled-for, sound-but, sound-as, open-edge}
 use Rattle.bidding.proofs.Placed.{displaced-none, framed-displaced, price-placed, gain-moved, matching-placed, framed-placed}
@@ -45,11 +46,13 @@ waits-as same s =
       away = λ i l q. r .away i l (λ n. q (λ v. n (same i l .1 v)));
     })
 
--- The rule's bid is admissible
-pub chosen-admissible : {b : Auction} {i k : ℕ} → Chosen (b .market .slack .p) (b .market .slack .q) (b .market .items) (live b i) (priceAt b) k →
-    Admissible b i k (utility (b .market .slack .q) (live b i k) (priceAt b k)) (priceAt b k + b .market .slack .p * live b i k)
-chosen-admissible c =
-    record { item = c .item; «open» = c .«open»; whole = omega (arith, c .«open»); rises = le-refl _; others = λ j l ne o. c .greatest j l o }
+-- The rule's bid is whole, and admissible
+pub pairs-whole : PairsWhole
+pairs-whole p q m w y k s c r = omega (arith, c .«open», second-within p q m w y k s c r)
+
+pub rule-admissible : RuleAdmissible
+rule-admissible b i k s c r =
+    record { item = c .item; «open» = c .«open»; whole = pairs-whole _ _ _ _ _ k s c r; rises = omega arith; others = r .greatest }
 
 -- Bidder i + 1 is to bid, and others wait
 module _ {waits : ℕ → Type 0} {b : Auction} {i : ℕ} (s : SoundBut (λ h. waits h ⊎ (h ≡ i)) b) (li : i < b .market .arrived) (rests : waits i → ⊥) where

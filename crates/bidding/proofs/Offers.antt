@@ -1,106 +1,132 @@
 -- The leader of step 2, after an edge has been offered to it. An edge of weight w at price y has a utility over the bar where y + bar < q × w.
 use mathlib.Core.Path.{_≡_, refl, sym, _∙_}
 use mathlib.Core.Bool.{Bool, true, false, cond, _&&_, _||_}
-use Prim.Native.Nat.{ℕ, zero, suc, _+_, _-_, _*_, _<_, _≤_}
+use Prim.Native.Nat.{ℕ, zero, suc, _+_, _-_, _*_, _<_, _≤_, max}
 use native.Mathlib.Nat.{mul-le-mul}
 use native.Mathlib.Numerals.{add-one}
 use native.Mathlib.Omega.{arith}
 use lib.Dec.{eqb, ltb}
-use borrow.Author.Tests.{eqb-true, ltb-false, lt-ltb, le-ltb, eq-eqb, ne-eqb}
+use borrow.Author.Tests.{eqb-true, eqb-false, ltb-true, ltb-false, lt-ltb, le-ltb, eq-eqb, ne-eqb}
 use Rattle.duality.specs.Steps.{utility}
+use Rattle.duality.proofs.Decide.{clash}
 use Rattle.board.specs.declared.units.Pence.{Pence}
+use Rattle.board.specs.declared.units.Scaled.{Scaled}
 use Rattle.board.specs.Limits.{maxQ, wordLimit}
 use Rattle.board.specs.Cells.{pence, scaled}
 use Rattle.bidding.specs.declared.rule.BestEdge.{BestEdge}
 use Rattle.bidding.specs.declared.rule.BestEdge.the-variants.{At, Nothing}
-use Rattle.bidding.specs.Rule.{beats}
+use Rattle.bidding.specs.Rule.{beats, ranked}
 use Rattle.bidding.specs.Slides.{takeOf, pickOf}
-use Rattle.bidding.specs.Leader.{edgeOf, LeaderFits}
+use Rattle.bidding.specs.Leader.{secondIn, edgeOf, LeaderFits, Offered}
 
-pub leads-none : LeaderFits 0 0
-leads-none = record { low = λ e. refl; fits = omega arith }
+pub leads-none : LeaderFits 0 1 0
+leads-none = record { low = λ e. (refl, refl); led = λ l. absurd (omega arith); under = omega arith; fits = omega arith }
 
 -- What a leader is: no edge while it has no weight
-pub edge-none : (k : ℕ) (w : Pence) (bar : ℕ) → w .0 ≡ 0 → Nothing ≡ edgeOf k w bar
-edge-none k w bar e = rw (eq-eqb (w .0) 0 e) refl
+pub edge-none : (k : ℕ) (w : Pence) (u : Scaled) (bar : ℕ) → w .0 ≡ 0 → Nothing ≡ edgeOf k w u bar
+edge-none k w u bar e = rw (eq-eqb (w .0) 0 e) refl
 
-pub edge-at : (k : ℕ) (w : Pence) (bar : ℕ) → (w .0 ≡ 0 → ⊥) → At k w (scaled (bar + 1)) ≡ edgeOf k w bar
-edge-at k w bar ne = rw (ne-eqb (w .0) 0 ne) refl
+pub edge-at : (k : ℕ) (w : Pence) (u s : Scaled) (bar : ℕ) → (w .0 ≡ 0 → ⊥) → s .0 ≡ secondIn bar → At k w u s ≡ edgeOf k w u bar
+edge-at k w u s bar ne e = rw (ne-eqb (w .0) 0 ne, ← e) refl
 
--- An edge beside a leader of weight v
-module _ (q k w y v bar : ℕ) where
-  abbrev its : ℕ
-  its = utility q w y
+-- What a bar stands for
+pub second-none : (bar : ℕ) → bar ≡ 0 → 0 ≡ secondIn bar
+second-none bar e = rw (eq-eqb bar 0 e) refl
 
-  -- What `beats` comes to where the utility is over the bar
-  beats-above : bar < its → (k₀ : ℕ) → beats its w (At k₀ (pence v) (scaled (bar + 1))) ≡ (ltb (bar + 1) its || ltb v w)
-  beats-above l k₀ = go (ltb (bar + 1) its) refl
-    where
-      go : (s : Bool) → ltb (bar + 1) its ≡ s → (s || (eqb its (bar + 1) && ltb v w)) ≡ (s || ltb v w)
-      go true e = refl
-      go false e = rw (eq-eqb its (bar + 1) (omega (arith, ltb-false (bar + 1) its e))) refl
+pub second-some : (bar : ℕ) → (bar ≡ 0 → ⊥) → bar + 1 ≡ secondIn bar
+second-some bar ne = rw (ne-eqb bar 0 ne) refl
 
-  -- Where it is not
-  beats-below : its ≤ bar → (k₀ : ℕ) → beats its w (At k₀ (pence v) (scaled (bar + 1))) ≡ false
-  beats-below l k₀ = rw (le-ltb (bar + 1) its (omega arith), ne-eqb its (bar + 1) (λ e. omega arith)) refl
+second-most : (bar : ℕ) → secondIn bar ≤ bar + 1
+second-most bar = go (eqb bar 0)
+  where
+    go : (t : Bool) → cond t 0 (bar + 1) ≤ bar + 1
+    go true = omega arith
+    go false = omega arith
 
-no-more : (s : Bool) → (s && false) ≡ false
-no-more true = refl
-no-more false = refl
+-- Of a number over 0, less 1
+second-less : (g : ℕ) → 1 < g → g ≡ secondIn (g - 1)
+second-less g l = let back : g - 1 + 1 ≡ g = omega arith in sym back ∙ second-some (g - 1) (λ e. omega arith)
+
+-- An edge with a weight
+has-weight : (q w y bar : ℕ) → y + bar < q * w → 0 < w
+has-weight q zero y bar l = absurd (omega arith)
+has-weight q (suc w) y bar l = omega arith
 
 -- The edge is passed over where its utility is not over the bar
-pub take-below : (q k w y k₀ : ℕ) (v : Pence) (bar : ℕ) → LeaderFits (v .0) bar → q * w ≤ y + bar → edgeOf k₀ v bar ≡ takeOf q k w y (edgeOf k₀ v bar)
+pub take-below : (q k w y j : ℕ) (v : Pence) (g : Scaled) (bar : ℕ) → LeaderFits (v .0) (g .0) bar → Offered q w y → q * w ≤ y + bar →
+    edgeOf j v g bar ≡ takeOf q k w y (edgeOf j v g bar)
 unfolding takeOf
-take-below q k w y k₀ v bar h l = go (eqb (v .0) 0) refl
+take-below q k w y j v g bar h o l = go (ltb 0 (utility q w y)) refl
   where
-    go : (t : Bool) → eqb (v .0) 0 ≡ t →
-        cond t Nothing (At k₀ v (scaled (bar + 1))) ≡
-        cond (ltb 0 (utility q w y) && beats (utility q w y) w (cond t Nothing (At k₀ v (scaled (bar + 1))))) (At k (pence w) (scaled (utility q w y))) (cond t Nothing (At k₀ v (scaled (bar + 1))))
-    go true e = rw (le-ltb 0 (utility q w y) (omega (arith, h .low (eqb-true (v .0) 0 e)))) refl
-    go false e = rw (beats-below q k w y (v .0) bar (omega arith) k₀, no-more (ltb 0 (utility q w y))) refl
+    stays : (t : Bool) → eqb (v .0) 0 ≡ t → 0 < utility q w y →
+        cond t Nothing (At j v g (scaled (secondIn bar))) ≡ ranked k w (utility q w y) (cond t Nothing (At j v g (scaled (secondIn bar))))
+    stays true e u = absurd (omega (arith, h .low (eqb-true (v .0) 0 e) .1))
+    stays false e u =
+        let two : 1 < utility q w y = omega (arith, o (has-weight q w y 0 (omega arith))) in
+        let some : bar + 1 ≡ secondIn bar = second-some bar (λ e. omega arith) in
+        let kept : max (secondIn bar) (utility q w y) ≡ secondIn bar = omega (arith, some) in
+        rw (le-ltb (g .0) (utility q w y) (omega (arith, h .under)), ne-eqb (utility q w y) (g .0) (λ e. omega (arith, h .under)), kept) refl
 
--- Otherwise u is its utility, which is over the bar
-module _ (q k w y k₀ : ℕ) (v : Pence) (bar : ℕ) (over : y + bar < q * w) (u : ℕ) (is : u ≡ utility q w y) where
-  has-weight : 0 < w
-  has-weight = go w over
+    go : (t : Bool) → ltb 0 (utility q w y) ≡ t → edgeOf j v g bar ≡ cond t (ranked k w (utility q w y) (edgeOf j v g bar)) (edgeOf j v g bar)
+    go true e = stays (eqb (v .0) 0) refl (ltb-true 0 (utility q w y) e)
+    go false e = refl
+
+-- Otherwise it is ranked
+pub take-above : (q k w y bar u : ℕ) (best : BestEdge) → y + bar < q * w → u ≡ utility q w y → ranked k w u best ≡ takeOf q k w y best
+unfolding takeOf
+take-above q k w y bar u best l is = rw (is, lt-ltb 0 (utility q w y) (omega arith)) refl
+
+-- What is known of its utility then
+pub above-large : (q w y bar u : ℕ) → Offered q w y → y + bar < q * w → u ≡ utility q w y → (0 < w) × (1 < u)
+above-large q w y bar u o l is = let h = has-weight q w y bar l in (h, omega (arith, is, o h))
+
+pub above-small : (q w y bar u : ℕ) → q ≤ maxQ → w < wordLimit → u ≡ utility q w y → u ≤ maxQ * wordLimit
+above-small q w y bar u hq hw is = let top : q * w ≤ maxQ * wordLimit = mul-le-mul {m₂ = wordLimit} hq (omega arith) in omega arith
+
+-- Beside a leader at item j, of weight v, utility g and that bar, an edge of weight w and utility u, which is over the bar
+module _ (k w u j : ℕ) (v : Pence) (g : Scaled) (bar : ℕ) (h : LeaderFits (v .0) (g .0) bar) (hw : 0 < w) (hu : 1 < u) (over : bar < u) where
+  -- It goes before, and the leader's utility is second
+  pub ranks-new : beats u w (g .0) (v .0) ≡ true → edgeOf k (pence w) (scaled u) (g .0 - 1) ≡ ranked k w u (edgeOf j v g bar)
+  ranks-new f = rw (ne-eqb w 0 (λ z. omega arith)) (go (eqb (v .0) 0) refl)
     where
-      go : (w : ℕ) → y + bar < q * w → 0 < w
-      go zero l = absurd (omega arith)
-      go (suc w) l = omega arith
+      go : (t : Bool) → eqb (v .0) 0 ≡ t → At k (pence w) (scaled u) (scaled (secondIn (g .0 - 1))) ≡ ranked k w u (cond t Nothing (At j v g (scaled (secondIn bar))))
+      go true e = let z : g .0 - 1 ≡ 0 = omega (arith, h .low (eqb-true (v .0) 0 e) .0) in rw (← second-none (g .0 - 1) z) refl
+      go false e =
+          let some : 0 < v .0 = omega (arith, eqb-false (v .0) 0 e) in
+          let back : secondIn (g .0 - 1) ≡ g .0 = sym (second-less (g .0) (h .led some)) in
+          rw (f, back) refl
 
-  -- It takes the lead, or it does not
-  take-over : (t : Bool) → (ltb (bar + 1) u || ltb (v .0) w) ≡ t → takeOf q k w y (edgeOf k₀ v bar) ≡ cond t (At k (pence w) (scaled u)) (edgeOf k₀ v bar)
-  unfolding takeOf
-  take-over t f = rw (is, lt-ltb 0 (utility q w y) (omega arith)) (go (eqb (v .0) 0) refl)
+  pub leads-new : beats u w (g .0) (v .0) ≡ true → u ≤ maxQ * wordLimit → LeaderFits w u (g .0 - 1)
+  leads-new f l = record { low = λ z. absurd (omega arith); led = λ _. hu; under = go (ltb (g .0) u) refl f; fits = l }
     where
-      beaten : (ltb (bar + 1) (utility q w y) || ltb (v .0) w) ≡ t
-      beaten = rw is at f
+      tied : (t : Bool) → eqb u (g .0) ≡ t → (t && ltb (v .0) w) ≡ true → g .0 - 1 < u
+      tied true e x = omega (arith, eqb-true u (g .0) e)
+      tied false e x = absurd (clash false x refl)
 
-      either : (s : Bool) → (s || true) ≡ true
-      either true = refl
-      either false = refl
+      go : (t : Bool) → ltb (g .0) u ≡ t → (t || (eqb u (g .0) && ltb (v .0) w)) ≡ true → g .0 - 1 < u
+      go true e x = omega (arith, ltb-true (g .0) u e)
+      go false e x = tied (eqb u (g .0)) refl x
 
-      go : (s : Bool) → eqb (v .0) 0 ≡ s →
-          cond (beats (utility q w y) w (cond s Nothing (At k₀ v (scaled (bar + 1))))) (At k (pence w) (scaled (utility q w y))) (cond s Nothing (At k₀ v (scaled (bar + 1)))) ≡
-          cond t (At k (pence w) (scaled (utility q w y))) (cond s Nothing (At k₀ v (scaled (bar + 1))))
-      go true e =
-          let more : ltb (v .0) w ≡ true = lt-ltb (v .0) w (omega (arith, eqb-true (v .0) 0 e, has-weight)) in
-          let yes : t ≡ true = sym (rw more at beaten) ∙ either (ltb (bar + 1) (utility q w y)) in
-          rw yes refl
-      go false e = rw (beats-above q k w y (v .0) bar (omega arith) k₀, beaten) refl
+  -- It does not, and its utility is second
+  not-more : beats u w (g .0) (v .0) ≡ false → u ≤ g .0
+  not-more f = go (ltb (g .0) u) refl f
+    where
+      go : (t : Bool) → ltb (g .0) u ≡ t → (t || (eqb u (g .0) && ltb (v .0) w)) ≡ false → u ≤ g .0
+      go true e x = absurd (clash true refl x)
+      go false e x = ltb-false (g .0) u e
 
-  pub take-kept : (ltb (bar + 1) u || ltb (v .0) w) ≡ false → edgeOf k₀ v bar ≡ takeOf q k w y (edgeOf k₀ v bar)
-  take-kept f = sym (take-over false f)
+  some-weight : beats u w (g .0) (v .0) ≡ false → (v .0 ≡ 0 → ⊥)
+  some-weight f z = omega (arith, h .low z .0, not-more f)
 
-  pub take-new : (ltb (bar + 1) u || ltb (v .0) w) ≡ true → edgeOf k (pence w) (u - 1) ≡ takeOf q k w y (edgeOf k₀ v bar)
-  take-new f =
-      let back : u - 1 + 1 ≡ u = omega arith in
-      rw (ne-eqb w 0 (λ z. omega (arith, has-weight)), back) (sym (take-over true f))
+  pub ranks-kept : beats u w (g .0) (v .0) ≡ false → edgeOf j v g (u - 1) ≡ ranked k w u (edgeOf j v g bar)
+  ranks-kept f =
+      let is : eqb (v .0) 0 ≡ false = ne-eqb (v .0) 0 (some-weight f) in
+      let back : secondIn (u - 1) ≡ u = sym (second-less u hu) in
+      let most : max (secondIn bar) u ≡ u = omega (arith, second-most bar) in
+      rw (is, f, back, most) refl
 
-  pub leads-new : q ≤ maxQ → w < wordLimit → LeaderFits w (u - 1)
-  leads-new hq hw =
-      let top : q * w ≤ maxQ * wordLimit = mul-le-mul {m₂ = wordLimit} hq (omega arith) in
-      record { low = λ z. absurd (omega (arith, has-weight)); fits = omega arith }
+  pub leads-kept : beats u w (g .0) (v .0) ≡ false → LeaderFits (v .0) (g .0) (u - 1)
+  leads-kept f = record { low = λ z. absurd (some-weight f z); led = h .led; under = omega (arith, not-more f); fits = h .fits }
 
 -- One more item
 pub pick-next : (q : ℕ) (w y : ℕ → ℕ) (k : ℕ) (best new : BestEdge) → best ≡ pickOf q w y k → new ≡ takeOf q k (w k) (y k) best → new ≡ pickOf q w y (k + 1)

@@ -1,6 +1,6 @@
 -- The loop of a chain over plain numbers: what is known at its head, and what the four steps of a bid make of it.
 use mathlib.Core.Path.{_≡_, refl, sym, ap, _∙_}
-use mathlib.Core.Bool.{false, cond}
+use mathlib.Core.Bool.{Bool, true, false, cond}
 use mathlib.Core.List.{List}
 use mathlib.Core.Logic.{by-cases}
 use Prim.Native.Nat.{ℕ, zero, suc, _+_, _-_, _*_, _<_, _≤_}
@@ -8,7 +8,9 @@ use native.Mathlib.Nat.{mul-le-mul}
 use native.Mathlib.Decide.{ℕ-discrete}
 use native.Mathlib.Omega.{arith}
 use lib.ListN.{length, set, take, drop, length-set}
+use lib.Dec.{ltb}
 use lib.Seq.{getD-set-same, getD-set-other}
+use borrow.Author.Tests.{ltb-true}
 use Rattle.duality.specs.Lists.{cells}
 use Rattle.duality.specs.Steps.{utility}
 use Rattle.board.specs.declared.record.Auction.{Auction}
@@ -24,11 +26,12 @@ use Rattle.board.specs.Live.{live, liveIn}
 use Rattle.board.specs.Lent.{written}
 use Rattle.board.proofs.LiveLaws.{held-names}
 use Rattle.board.proofs.Written.{written-in, written-length}
-use Rattle.bidding.specs.Rule.{bestFor, afterChain, done, settleOf, fuelOf}
+use Rattle.bidding.specs.Rule.{raisedTo, bestFor, afterChain, done, settleOf, fuelOf}
 use Rattle.bidding.specs.Waiting.{SoundBut}
 use Rattle.bidding.specs.Book.{stateOf}
 use Rattle.bidding.specs.Floors.{floorOf, Floors, Weighs}
-use Rattle.bidding.specs.Slides.{testOpen, pickOf, raisedTo, priced, handedTo, gainsTo, handedOver}
+use Rattle.bidding.specs.Leader.{Offered}
+use Rattle.bidding.specs.Slides.{testOpen, pickOf, priced, handedTo, gainsTo, handedOver}
 use Rattle.bidding.proofs.Choices.{best-at}
 use Rattle.bidding.proofs.Frame.{open-edge, live-is}
 use Rattle.bidding.proofs.Units.{units-at, units-length, gains-length}
@@ -71,6 +74,16 @@ module _ (market : Market) (weights prices holders gains : List ℕ) (i : ℕ) w
       ∙ pick-as (market .slack .q) (market .items) (cells after) found-at (cells prices) (priceAt (board market weights prices holders gains))
       (tested-as row tested after er room ea) (λ k. sym (units-at prices k))
       ∙ test-then-pick (market .slack .p) (market .slack .q) (market .items) (live (board market weights prices holders gains) i) (priceAt (board market weights prices holders gains)))
+
+-- An open edge has a utility of 2 or more
+tested-large : (p q w y z : ℕ) → 1 ≤ p → y ≡ z → 0 < cond (ltb (p * w) (utility q w y)) w 0 → z + 1 < q * cond (ltb (p * w) (utility q w y)) w 0
+tested-large p q w y z hp e = go (ltb (p * w) (utility q w y)) refl
+  where
+    go : (t : Bool) → ltb (p * w) (utility q w y) ≡ t → 0 < cond t w 0 → z + 1 < q * cond t w 0
+    go true f l =
+        let some : 1 * 1 ≤ p * w = mul-le-mul hp l in
+        omega (arith, ltb-true (p * w) (utility q w y) f)
+    go false f l = absurd (omega arith)
 
 -- The floors after the price of an item has risen
 floors-next : (p q : ℕ) (withdrawn prices floors : List ℕ) (m k v : ℕ) → k < length prices → k < length floors → flagAt withdrawn k ≡ false →
@@ -138,19 +151,31 @@ module _ {b₀ : Auction} {i₀ : ℕ} {market : Market} {weights prices holders
     pub tested-kept : length after ≡ maxItems
     tested-kept = ap length tests ∙ written-length (market .items) _ tested ∙ r .tested-size
 
+    -- What is left has a utility of 2 or more
+    pub offered : (k : ℕ) → k < market .items → Offered (market .slack .q) (cells after k) (cells prices k)
+    unfolding testOpen
+    offered k l hw =
+        let s = r .going .ready .sound in
+        let is = tested-as market weights prices holders gains i (rowPart weights i) tested after (row-part weights i) (omega (arith, r .tested-size, s .items)) tests k l in
+        rw is (tested-large (market .slack .p) (market .slack .q) (live b i k) (priceAt b k) (cells prices k) (s .slack .low) (units-at prices k) (rw is at hw))
+
     pub best-is : (best : BestEdge) → best ≡ pickOf (market .slack .q) (cells after) (cells prices) (market .items) → bestFor b i ≡ best
     best-is best e =
         picks-best market weights prices holders gains i (rowPart weights i) tested after best (row-part weights i)
         (omega (arith, r .tested-size, r .going .ready .sound .items)) tests e
 
-  -- The bid is made: v is the weight that step 2 answers, and u the utility
-  module _ {k : ℕ} {v : Pence} {u : Scaled} (e : bestFor b i ≡ At k v u) where
-    finds : Found b i k v u
+  -- The bid is made: v is the weight that step 2 answers, u the utility, and s the second
+  module _ {k : ℕ} {v : Pence} {u s : Scaled} (e : bestFor b i ≡ At k v u s) where
+    finds : Found b i k v u s
     finds = found (r .going) e
 
-    left : board market weights (set prices k (raisedTo (market .slack .p) (v .0) (cells prices k))) (handedTo holders k i) (gainsTo 0 gains i (u .0) (holderOf (cells holders k))) ≡
-        handedOver (priced b k (v .0)) i k (u .0) .auction
-    left = plain-steps market weights prices holders gains i k (v .0) (u .0)
+    -- The price that step 3 makes
+    abbrev raised : ℕ
+    raised = raisedTo (market .slack .p) (v .0) (u .0 - s .0) (cells prices k)
+
+    left : board market weights (set prices k raised) (handedTo holders k i) (gainsTo 0 gains i (s .0) (holderOf (cells holders k))) ≡
+        handedOver (priced b k (v .0) (u .0 - s .0)) i k (s .0) .auction
+    left = plain-steps market weights prices holders gains i k (v .0) (u .0 - s .0) (s .0)
 
     weight : v .0 ≡ live b i k
     weight = ap (λ (x : Pence). x .0) (finds .weight)
@@ -159,30 +184,30 @@ module _ {b₀ : Auction} {i₀ : ℕ} {market : Market} {weights prices holders
     gain = ap (λ (x : Scaled). x .0) (finds .utility)
 
     -- The lists that the steps leave
-    pub next-ends : holderOf (cells holders k) ≡ Free → (ps hs gs : List ℕ) → ps ≡ set prices k (raisedTo (market .slack .p) (v .0) (cells prices k)) →
-        hs ≡ handedTo holders k i → gs ≡ gainsTo 0 gains i (u .0) (holderOf (cells holders k)) →
+    pub next-ends : holderOf (cells holders k) ≡ Free → (ps hs gs : List ℕ) → ps ≡ set prices k raised →
+        hs ≡ handedTo holders k i → gs ≡ gainsTo 0 gains i (s .0) (holderOf (cells holders k)) →
         done (afterChain (board market weights ps hs gs) (bids + 1)) ≡ settleOf (fuelOf b₀) b₀ i₀ 0
-    next-ends f ps hs gs ep eh eg = rw (ep, eh, eg) (turn-ends (r .going) e _ (left ∙ handed-free b i k (v .0) (u .0) weight gain f) f)
+    next-ends f ps hs gs ep eh eg = rw (ep, eh, eg) (turn-ends (r .going) e _ (left ∙ handed-free b i k (v .0) (u .0) (s .0) weight gain f) f)
 
-    pub next-runs : (x : ℕ) → holderOf (cells holders k) ≡ Held x → (ps hs gs fs after : List ℕ) → ps ≡ set prices k (raisedTo (market .slack .p) (v .0) (cells prices k)) →
-        hs ≡ handedTo holders k i → gs ≡ gainsTo 0 gains i (u .0) (holderOf (cells holders k)) →
-        fs ≡ set floors k (floorOf (market .slack .p) (market .slack .q) (raisedTo (market .slack .p) (v .0) (cells prices k))) → length after ≡ maxItems →
+    pub next-runs : (x : ℕ) → holderOf (cells holders k) ≡ Held x → (ps hs gs fs after : List ℕ) → ps ≡ set prices k raised →
+        hs ≡ handedTo holders k i → gs ≡ gainsTo 0 gains i (s .0) (holderOf (cells holders k)) →
+        fs ≡ set floors k (floorOf (market .slack .p) (market .slack .q) raised) → length after ≡ maxItems →
         Running b₀ i₀ market weights ps hs gs fs after x (bids + 1)
     next-runs x f ps hs gs fs after ep eh eg ef n =
-        let o = best-at _ _ _ _ _ k v u e .chosen in
+        let o = best-at _ _ _ _ _ k v u s e .chosen in
         rw (ep, eh, eg, ef) (record {
-          going = turn-on (r .going) e _ x (left ∙ handed-held b i k (v .0) (u .0) weight gain x f) f;
+          going = turn-on (r .going) e _ x (left ∙ handed-held b i k (v .0) (u .0) (s .0) weight gain x f) f;
           floored = floors-next _ _ (market .withdrawn) prices floors (market .items) k _ (omega (arith, prices-size, finds .item)) (omega (arith, r .floors-size, finds .item))
               (live-is (flagAt (market .withdrawn) k) _ (open-edge _ _ _ _ (o .«open»)) .0) (r .floored);
           floors-size = length-set floors k _ ∙ r .floors-size;
           tested-size = n;
         })
 
-    pub prices-kept : length (set prices k (raisedTo (market .slack .p) (v .0) (cells prices k))) ≡ maxItems
+    pub prices-kept : length (set prices k raised) ≡ maxItems
     prices-kept = length-set prices k _ ∙ prices-size
 
-    pub gains-kept : length (gainsTo 0 gains i (u .0) (holderOf (cells holders k))) ≡ maxBidders
-    gains-kept = gains-length gains i (u .0) (holderOf (cells holders k)) ∙ gains-size
+    pub gains-kept : length (gainsTo 0 gains i (s .0) (holderOf (cells holders k))) ≡ maxBidders
+    gains-kept = gains-length gains i (s .0) (holderOf (cells holders k)) ∙ gains-size
 
     -- What steps 3 and 4 ask
     pub item-small : k < maxItems
@@ -192,7 +217,17 @@ module _ {b₀ : Auction} {i₀ : ℕ} {market : Market} {weights prices holders
     weight-small = omega (arith, finds .small)
 
     pub held-small : cells holders k ≤ maxBidders
-    held-small = holder-small (r .going .ready .sound) k (best-at _ _ _ _ _ k v u e .chosen .item)
+    held-small = holder-small (r .going .ready .sound) k (best-at _ _ _ _ _ k v u s e .chosen .item)
 
     pub item-price : cells prices k ≤ maxQ * wordLimit
-    item-price = prices-small k (best-at _ _ _ _ _ k v u e .chosen .item)
+    item-price = prices-small k (best-at _ _ _ _ _ k v u s e .chosen .item)
+
+    -- The lead
+    pub second-small : s .0 ≤ u .0
+    second-small = finds .second
+
+    pub lead-small : u .0 - s .0 ≤ maxQ * wordLimit
+    lead-small =
+        let top : market .slack .q * live b i k ≤ maxQ * wordLimit =
+        mul-le-mul {n₂ = maxQ} {m₂ = wordLimit} (r .going .ready .sound .slack .high) (omega (arith, weight, finds .small)) in
+        omega (arith, gain)

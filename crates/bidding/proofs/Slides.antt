@@ -1,8 +1,8 @@
 -- The four steps of a bid: what the first two mean, and that all in turn are the bid as defined until now, in every chain and move.
 use mathlib.Core.Path.{_≡_, refl, sym, ap, _∙_, fun-ext}
-use mathlib.Core.Bool.{Bool, true, false, cond, _&&_}
+use mathlib.Core.Bool.{Bool, true, false, cond}
 use mathlib.Core.List.{List, [], _∷_}
-use Prim.Native.Nat.{ℕ, zero, suc, _+_, _*_, _<_}
+use Prim.Native.Nat.{ℕ, zero, suc, _+_, _-_, _*_, _<_}
 use native.Mathlib.Omega.{arith}
 use lib.Dec.{ltb}
 use borrow.Author.Tests.{lt-ltb, le-ltb, ltb-true}
@@ -15,13 +15,13 @@ use Rattle.board.specs.declared.units.Scaled.{Scaled}
 use Rattle.board.specs.declared.record.Holder.the-variants.{Held, Free}
 use Rattle.bidding.specs.declared.rule.BestEdge.{BestEdge}
 use Rattle.bidding.specs.declared.rule.BestEdge.the-variants.{At, Nothing}
-use Rattle.board.specs.Cells.{pence, scaled, priceAt, holderAt, holderOf}
+use Rattle.board.specs.Cells.{priceAt, holderAt, holderOf}
 use Rattle.board.specs.Live.{live}
-use Rattle.bidding.specs.Rule.{beats, offerOf, bestOf, placedAt, bidden, displaced, AfterChain, Outcome, done, spent, afterChain, handOver, bidOf, bestFor, settleOf, fuelOf}
+use Rattle.bidding.specs.Rule.{ranked, offerOf, bestOf, raisedTo, placedAt, bidden, displaced, AfterChain, Outcome, done, spent, afterChain, handOver, bidOf, bestFor, settleOf, fuelOf}
 use Rattle.bidding.specs.Moves.{arrivedOf, entered}
 use Rattle.bidding.specs.Withdrawals.{moreBids, nextChain, chainsFrom, withdrawnOf}
-use Rattle.bidding.specs.Slides.{testOpen, takeOf, pickOf, raisedTo, priced, handedOver, nextBidder, afterPick, bidBySlides, bidUntilNow, settleBySlides, arrivedBySlides, nextBySlides, chainsBySlides, withdrawnBySlides}
-use Rattle.bidding.specs.SlideLaws.{TestMeans, PickMeans, TestThenPick, PlainSteps, UntilNow, pickedFor, StepsInTurn, BidBySlides, ChainBySlides, ArrivedBySlides, WithdrawnBySlides}
+use Rattle.bidding.specs.Slides.{testOpen, takeOf, pickOf, priced, handedOver, nextBidder, afterPick, bidBySlides, bidUntilNow, settleBySlides, arrivedBySlides, nextBySlides, chainsBySlides, withdrawnBySlides}
+use Rattle.bidding.specs.SlideLaws.{TestMeans, PickMeans, TestThenPick, PlainSteps, UntilNow, pickedFor, handedFor, StepsInTurn, BidBySlides, ChainBySlides, ArrivedBySlides, WithdrawnBySlides}
 use Rattle.bidding.proofs.Choices.{best-is-chosen, best-at}
 use Rattle.bidding.proofs.Units.{units-at, units-set, units-gains}
 
@@ -41,9 +41,7 @@ unfolding takeOf offerOf
 take-tested p q k w y best = go (ltb (p * w) (utility q w y)) refl
   where
     go : (t : Bool) → ltb (p * w) (utility q w y) ≡ t →
-        cond (ltb 0 (utility q (cond t w 0) y) && beats (utility q (cond t w 0) y) (cond t w 0) best)
-        (At k (pence (cond t w 0)) (scaled (utility q (cond t w 0) y))) best
-        ≡ cond (t && beats (utility q w y) w best) (At k (pence w) (scaled (utility q w y))) best
+        cond (ltb 0 (utility q (cond t w 0) y)) (ranked k (cond t w 0) (utility q (cond t w 0) y) best) best ≡ cond t (ranked k w (utility q w y) best) best
     go true e = rw (lt-ltb 0 (utility q w y) (omega (arith, ltb-true (p * w) (utility q w y) e))) refl
     go false e = rw (le-ltb 0 (utility q 0 y) (omega arith)) refl
 
@@ -75,24 +73,24 @@ pick-as q (suc m) w v y z e f = rw (pick-as q m w v y z (λ k l. e k (omega arit
 
 pub plain-steps : PlainSteps
 unfolding handedOver priced
-plain-steps market weights prices holders gains i k w u =
-    rw (units-set prices k (raisedTo (market .slack .p) w (cells prices k)), units-gains gains i u (holderOf (cells holders k)), units-at prices k) refl
+plain-steps market weights prices holders gains i k w lead s =
+    rw (units-set prices k (raisedTo (market .slack .p) w lead (cells prices k)), units-gains gains i s (holderOf (cells holders k)), units-at prices k) refl
 
 -- ---- All four
 
--- The board that price and hand over leave, of the weight and the utility that the rule's best open edge has
-module _ (b : Auction) (i k w u : ℕ) (weight : w ≡ live b i k) (gain : u ≡ utility (b .market .slack .q) (live b i k) (priceAt b k)) where
-  pub handed-free : holderOf (holderAt b k) ≡ Free → handedOver (priced b k w) i k u .auction ≡ bidden b i k
+-- The board that price and hand over leave, of the weight and the utility that the rule's best open edge has, and the second utility
+module _ (b : Auction) (i k w u s : ℕ) (weight : w ≡ live b i k) (gain : u ≡ utility (b .market .slack .q) (live b i k) (priceAt b k)) where
+  pub handed-free : holderOf (holderAt b k) ≡ Free → handedOver (priced b k w (u - s)) i k s .auction ≡ bidden b i k s
   unfolding handedOver priced placedAt
   handed-free e = rw (e, weight, gain) refl
 
-  pub handed-held : (x : ℕ) → holderOf (holderAt b k) ≡ Held x → handedOver (priced b k w) i k u .auction ≡ displaced (bidden b i k) x
+  pub handed-held : (x : ℕ) → holderOf (holderAt b k) ≡ Held x → handedOver (priced b k w (u - s)) i k s .auction ≡ displaced (bidden b i k s) x
   unfolding handedOver priced placedAt displaced
   handed-held x e = rw (e, weight, gain) refl
 
   -- Beside what `bidOf` does with that edge
   hands : (again : Auction → ℕ → ℕ → Outcome AfterChain) (bids : ℕ) (h : Holder) → holderOf (holderAt b k) ≡ h →
-      nextBidder again (handedOver (priced b k w) i k u .auction) bids h ≡ handOver again (bidden b i k) bids h
+      nextBidder again (handedOver (priced b k w (u - s)) i k s .auction) bids h ≡ handOver again (bidden b i k s) bids h
   unfolding nextBidder handOver
   hands again bids Free e = ap (λ c. done (afterChain c bids)) (handed-free e)
   hands again bids (Held x) e = ap (λ c. again c x bids) (handed-held x e)
@@ -100,9 +98,9 @@ module _ (b : Auction) (i k w u : ℕ) (weight : w ≡ live b i k) (gain : u ≡
 picks : (again : Auction → ℕ → ℕ → Outcome AfterChain) (b : Auction) (i bids : ℕ) (best : BestEdge) → bestFor b i ≡ best → afterPick again b i bids best ≡ bidOf again b i bids best
 unfolding afterPick bidOf handedOver priced
 picks again b i bids Nothing e = refl
-picks again b i bids (At k v u) e =
-    let a = best-at _ _ _ _ _ k v u e in
-    hands b i k (v .0) (u .0) (ap (λ (x : Pence). x .0) (a .weight)) (ap (λ (x : Scaled). x .0) (a .utility)) again (bids + 1) (holderOf (holderAt b k)) refl
+picks again b i bids (At k v u s) e =
+    let a = best-at _ _ _ _ _ k v u s e in
+    hands b i k (v .0) (u .0) (s .0) (ap (λ (x : Pence). x .0) (a .weight)) (ap (λ (x : Scaled). x .0) (a .utility)) again (bids + 1) (holderOf (holderAt b k)) refl
 
 -- What follows a pick
 module _ (again : Auction → ℕ → ℕ → Outcome AfterChain) where
@@ -110,11 +108,11 @@ module _ (again : Auction → ℕ → ℕ → Outcome AfterChain) where
   unfolding afterPick
   pick-nothing b i bids = refl
 
-  pick-at : (b : Auction) (i bids k : ℕ) (w : Pence) (u : Scaled) →
-      let d = handedOver (priced b k (w .0)) i k (u .0) in
-      afterPick again b i bids (At k w u) ≡ nextBidder again (d .auction) (bids + 1) (d .before)
+  pick-at : (b : Auction) (i bids k : ℕ) (w : Pence) (u s : Scaled) →
+      let d = handedFor b i k w u s in
+      afterPick again b i bids (At k w u s) ≡ nextBidder again (d .auction) (bids + 1) (d .before)
   unfolding afterPick
-  pick-at b i bids k w u = refl
+  pick-at b i bids k w u s = refl
 
   next-free : (b : Auction) (bids : ℕ) (h : Holder) → h ≡ Free → nextBidder again b bids h ≡ done (afterChain b bids)
   unfolding nextBidder
@@ -139,8 +137,8 @@ unfolding bidBySlides
 steps-in-turn again b i bids =
     record {
       nothing = λ e. same Nothing e ∙ pick-nothing again b i bids;
-      free = λ k w u e f. same (At k w u) e ∙ (pick-at again b i bids k w u ∙ next-free again _ (bids + 1) _ f);
-      held = λ k w u x e f. same (At k w u) e ∙ (pick-at again b i bids k w u ∙ next-held again _ (bids + 1) x _ f);
+      free = λ k w u s e f. same (At k w u s) e ∙ (pick-at again b i bids k w u s ∙ next-free again _ (bids + 1) _ f);
+      held = λ k w u s x e f. same (At k w u s) e ∙ (pick-at again b i bids k w u s ∙ next-held again _ (bids + 1) x _ f);
     }
   where
     same : (best : BestEdge) → pickedFor b i ≡ best → bidUntilNow again b i bids ≡ afterPick again b i bids best

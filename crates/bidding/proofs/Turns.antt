@@ -17,10 +17,10 @@ use Rattle.board.specs.Limits.{maxItems, maxBidders, maxWeight, maxQ}
 use Rattle.board.specs.Cells.{pence, scaled, priceAt, holderAt, holderOf, weightAt, withdrawnAt, rowIn}
 use Rattle.board.specs.Live.{live}
 use Rattle.bidding.specs.Potential.{one, edgeCount, potential, bidLimit}
-use Rattle.bidding.specs.Rule.{bestFor, bidden, displaced, settleOf, fuelOf, afterChain, done}
+use Rattle.bidding.specs.Rule.{Second, bestFor, bidden, displaced, settleOf, fuelOf, afterChain, done}
 use Rattle.bidding.specs.Waiting.{SoundBut, Ready}
-use Rattle.bidding.proofs.Choices.{best-at}
-use Rattle.bidding.proofs.Bids.{chosen-admissible}
+use Rattle.bidding.proofs.Choices.{best-at, second-within}
+use Rattle.bidding.proofs.Bids.{rule-admissible}
 use Rattle.bidding.proofs.Potentials.{potential-within, bid-raises, potential-displaced}
 use Rattle.bidding.proofs.Chains.{settle-none, settle-free, settle-held, limit-on, ready-on}
 
@@ -56,12 +56,13 @@ live-small {b = b} s i k li lk = go (withdrawnAt b k) (s .weights i k li lk)
     go true h = omega arith
     go false h = h
 
--- What a bid finds: an item, its weight within the limit, and its utility
-pub record Found (b : Auction) (i k : ℕ) (v : Pence) (u : Scaled) : Type 0 where
+-- What a bid finds: an item, its weight within the limit, its utility, and a second utility that is no greater
+pub record Found (b : Auction) (i k : ℕ) (v : Pence) (u s : Scaled) : Type 0 where
   pub item : k < maxItems
   pub weight : v ≡ pence (live b i k)
   pub small : v .0 ≤ maxWeight
   pub utility : u ≡ scaled (utility (b .market .slack .q) (live b i k) (priceAt b k))
+  pub second : s .0 ≤ u .0
 
 module _ {b₀ : Auction} {i₀ : ℕ} {b : Auction} {i bids : ℕ} (g : Going b₀ i₀ b i bids) where
   within-limit : bids ≤ bidLimit b₀
@@ -83,33 +84,36 @@ module _ {b₀ : Auction} {i₀ : ℕ} {b : Auction} {i bids : ℕ} (g : Going b
   pub less : fuelOf b₀ - (bids + 1) < fuelOf b₀ - bids
   less = omega (arith, within-limit)
 
-  module _ {k : ℕ} {v : Pence} {u : Scaled} (e : bestFor b i ≡ At k v u) where
-    pub found : Found b i k v u
+  module _ {k : ℕ} {v : Pence} {u s : Scaled} (e : bestFor b i ≡ At k v u s) where
+    pub found : Found b i k v u s
     found =
-        let a = best-at _ _ _ _ _ k v u e in
-        let s = g .ready .sound in
+        let a = best-at _ _ _ _ _ k v u s e in
+        let r = g .ready .sound in
         let w : v .0 ≡ live b i k = ap (λ (x : Pence). x .0) (a .weight) in
+        let x : u .0 ≡ utility (b .market .slack .q) (live b i k) (priceAt b k) = ap (λ (x : Scaled). x .0) (a .utility) in
         record {
-          item = omega (arith, a .chosen .item, s .items);
+          item = omega (arith, a .chosen .item, r .items);
           weight = a .weight;
-          small = rw w (live-small s i k (g .ready .bidder) (a .chosen .item));
+          small = rw w (live-small r i k (g .ready .bidder) (a .chosen .item));
           utility = a .utility;
+          second = rw x (second-within _ _ _ _ _ k (s .0) (a .chosen) (a .second));
         }
 
     -- c is the board that the steps of the bid leave. The item was free
-    pub turn-ends : (c : Auction) → c ≡ bidden b i k → holderOf (holderAt b k) ≡ Free → done (afterChain c (bids + 1)) ≡ settleOf (fuelOf b₀) b₀ i₀ 0
-    turn-ends c after f = rw after (sym (rw turns (settle-free _ b i bids k v u e f)) ∙ g .same)
+    pub turn-ends : (c : Auction) → c ≡ bidden b i k (s .0) → holderOf (holderAt b k) ≡ Free → done (afterChain c (bids + 1)) ≡ settleOf (fuelOf b₀) b₀ i₀ 0
+    turn-ends c after f = rw after (sym (rw turns (settle-free _ b i bids k v u s e f)) ∙ g .same)
 
     -- The item was held, and its holder bids next
-    pub turn-on : (c : Auction) (x : ℕ) → c ≡ displaced (bidden b i k) x → holderOf (holderAt b k) ≡ Held x → Going b₀ i₀ c x (bids + 1)
+    pub turn-on : (c : Auction) (x : ℕ) → c ≡ displaced (bidden b i k (s .0)) x → holderOf (holderAt b k) ≡ Held x → Going b₀ i₀ c x (bids + 1)
     turn-on c x after f =
-        let a = chosen-admissible (best-at _ _ _ _ _ k v u e .chosen) in
+        let t = best-at _ _ _ _ _ k v u s e in
+        let a = rule-admissible b i k (s .0) (t .chosen) (t .second) in
         let fuel : fuelOf b₀ - (bids + 1) ≡ bidLimit b₀ - bids = omega (arith, within-limit) in
         rw after (record {
           ready = ready-on (g .ready) e f;
-          limit = limit-on b i k x ∙ g .limit;
-          made = omega (arith, g .made, bid-raises _ b i k _ _ (g .ready .sound) (g .ready .bidder) a, potential-displaced (bidden b i k) x);
-          same = rw fuel (sym (settle-held _ b i bids k v u e x f) ∙ (sym (rw turns) ∙ g .same));
+          limit = limit-on b i k (s .0) x ∙ g .limit;
+          made = omega (arith, g .made, bid-raises _ b i k _ _ (g .ready .sound) (g .ready .bidder) a, potential-displaced (bidden b i k (s .0)) x);
+          same = rw fuel (sym (settle-held _ b i bids k v u s e x f) ∙ (sym (rw turns) ∙ g .same));
         })
 
 -- A bidder's row is a part of the weights

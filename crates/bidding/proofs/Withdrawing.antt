@@ -57,8 +57,8 @@ from-snoc o (y ∷ xs) x = from-snoc (nextChain o y) xs x
 chain-market : {b c : Auction} {i n : ℕ} → Chain b i c n → c .market ≡ b .market
 unfolding placedAt displaced
 chain-market (stays h) = refl
-chain-market (takes c e) = refl
-chain-market (displaces c e r) = chain-market r
+chain-market (takes c s e) = refl
+chain-market (displaces c s e r) = chain-market r
 
 -- ---- Between two chains: those of the set below h have bid, and the others wait
 pub record Between (b₀ : Auction) (member : ℕ → Bool) (h : ℕ) (b : Auction) (bids : ℕ) : Type 0 where

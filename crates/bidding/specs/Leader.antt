@@ -1,19 +1,31 @@
--- The best of the edges looked at, as step 2 of a bid keeps it: its item, its weight, and a bar, which is its utility less 1.
+-- The best of the edges looked at, as step 2 of a bid keeps it: its item, weight and utility, and a bar. An edge whose utility is not above the bar changes
+-- nothing. The bar is the second utility less 1, and 0 while there is no second. Every edge that is offered has a utility of 2 or more.
 use mathlib.Core.Path.{_≡_}
-use Prim.Native.Nat.{ℕ, _+_, _*_, _≤_}
+use mathlib.Core.Bool.{cond}
+use Prim.Native.Nat.{ℕ, _+_, _*_, _≤_, _<_}
+use lib.Dec.{eqb}
 use Rattle.board.specs.declared.units.Pence.{Pence}
+use Rattle.board.specs.declared.units.Scaled.{Scaled}
 use Rattle.board.specs.Limits.{maxQ, wordLimit}
 use Rattle.board.specs.Cells.{scaled}
-use mathlib.Core.Bool.{cond}
-use lib.Dec.{eqb}
 use Rattle.bidding.specs.declared.rule.BestEdge.{BestEdge}
 use Rattle.bidding.specs.declared.rule.BestEdge.the-variants.{At, Nothing}
 
--- The edge that it is: none while there is no weight
-abbrev pub edgeOf : ℕ → Pence → ℕ → BestEdge
-edgeOf k w bar = cond (eqb (w .0) 0) Nothing (At k w (scaled (bar + 1)))
+-- The second utility that a bar stands for
+abbrev pub secondIn : ℕ → ℕ
+secondIn bar = cond (eqb bar 0) 0 (bar + 1)
 
--- While there is no weight the bar is 0, and it fits
-pub record LeaderFits (w bar : ℕ) : Type 0 where
-  pub low : w ≡ 0 → bar ≡ 0
-  pub fits : bar ≤ maxQ * wordLimit
+-- The edge that it is: none while there is no weight
+abbrev pub edgeOf : ℕ → Pence → Scaled → ℕ → BestEdge
+edgeOf k w u bar = cond (eqb (w .0) 0) Nothing (At k w u (scaled (secondIn bar)))
+
+-- While there is no weight the utility is 1 and the bar 0; afterwards the utility is 2 or more. The bar is below the utility, and all fits
+pub record LeaderFits (w u bar : ℕ) : Type 0 where
+  pub low : w ≡ 0 → (u ≡ 1) × (bar ≡ 0)
+  pub led : 0 < w → 1 < u
+  pub under : bar < u
+  pub fits : u ≤ maxQ * wordLimit
+
+-- What step 1 leaves of an edge: no weight, or a utility of 2 or more, since an open edge has more than p × w
+abbrev pub Offered : ℕ → ℕ → ℕ → Type 0
+Offered q w y = 0 < w → y + 1 < q * w

@@ -1,8 +1,8 @@
 -- Statements about the four steps: what the first two mean, what the last two are on plain numbers, and that in turn they are the bid, the chain and the
--- moves as defined until now. These hold on every board, sound or not, and so "at every bid of every call on a sound board" (document 02, R-5).
+-- moves as the rule defines them. These hold on every board, sound or not, and so "at every bid of every call on a sound board" (document 02, R-5).
 use mathlib.Core.Path.{_≡_}
 use mathlib.Core.List.{List}
-use Prim.Native.Nat.{ℕ, suc, _+_, _<_, _≤_}
+use Prim.Native.Nat.{ℕ, suc, _+_, _-_, _<_, _≤_}
 use lib.ListN.{set}
 use Rattle.duality.specs.Lists.{cells}
 use Rattle.duality.specs.Steps.{Open}
@@ -16,13 +16,13 @@ use Rattle.bidding.specs.declared.rule.BestEdge.the-variants.{At, Nothin
 use Rattle.board.specs.Limits.{maxWeight}
 use Rattle.board.specs.Cells.{auction, priceAt, holderOf}
 use Rattle.board.specs.Live.{live}
-use Rattle.bidding.specs.Rule.{AfterChain, Outcome, done, afterChain, bestOf, settleOf}
+use Rattle.bidding.specs.Rule.{raisedTo, AfterChain, Outcome, done, afterChain, bestOf, settleOf}
 use Rattle.bidding.specs.RuleLaws.{Choice}
 use Rattle.bidding.specs.Moves.{arrivedOf}
 use Rattle.bidding.specs.Withdrawals.{withdrawnOf}
 use Rattle.bidding.specs.Book.{stateOf}
 use Rattle.bidding.specs.Floors.{floorOf}
-use Rattle.bidding.specs.Slides.{testOpen, pickOf, raisedTo, priced, handedTo, gainsTo, HandedOver, handedOver, bidBySlides, bidUntilNow, settleBySlides, arrivedBySlides, withdrawnBySlides}
+use Rattle.bidding.specs.Slides.{testOpen, pickOf, priced, handedTo, gainsTo, HandedOver, handedOver, bidBySlides, bidUntilNow, settleBySlides, arrivedBySlides, withdrawnBySlides}
 
 -- ---- Steps 1 and 2
 
@@ -34,11 +34,11 @@ pub record Tested (p q : ℕ) (w y : ℕ → ℕ) (k : ℕ) : Type 0 where
 abbrev pub TestMeans : Type 0
 TestMeans = (p q : ℕ) (w y : ℕ → ℕ) (k : ℕ) → Tested p q w y k
 
--- "pick": the choice among all edges that have a utility, whatever the slack
+-- "pick": the choice among all edges that have a utility, and the second of them, whatever the slack
 abbrev pub PickMeans : Type 0
 PickMeans = (q m : ℕ) (w y : ℕ → ℕ) → Choice 0 q m w y (pickOf q w y m)
 
--- Picked among the tested, the edge is that which the rule chooses
+-- Picked among the tested, the edge is that which the rule chooses, and the second is the rule's
 abbrev pub TestThenPick : Type 0
 TestThenPick = (p q m : ℕ) (w y : ℕ → ℕ) → pickOf q (testOpen p q w y) y m ≡ bestOf p q w y m
 
@@ -51,14 +51,14 @@ OpenAboveFloor = (p q w y : ℕ) → p < q → w ≤ maxWeight → (floorOf p q 
 -- On lists of plain numbers, as the code has them: the board that they come to
 abbrev pub PlainSteps : Type 0
 PlainSteps =
-    (market : Market) (weights prices holders gains : List ℕ) (i k w u : ℕ) →
+    (market : Market) (weights prices holders gains : List ℕ) (i k w lead s : ℕ) →
     auction market weights
-    (stateOf (set prices k (raisedTo (market .slack .p) w (cells prices k))) (handedTo holders k i) (gainsTo 0 gains i u (holderOf (cells holders k)))) ≡
-    handedOver (priced (auction market weights (stateOf prices holders gains)) k w) i k u .auction
+    (stateOf (set prices k (raisedTo (market .slack .p) w lead (cells prices k))) (handedTo holders k i) (gainsTo 0 gains i s (holderOf (cells holders k)))) ≡
+    handedOver (priced (auction market weights (stateOf prices holders gains)) k w lead) i k s .auction
 
 -- ---- All four
 
--- The bid as defined until now is that of which chains are made
+-- The bid as the rule defines it is that of which chains are made
 abbrev pub UntilNow : Type 0
 UntilNow = (fuel : ℕ) (b : Auction) (i bids : ℕ) → settleOf (suc fuel) b i bids ≡ bidUntilNow (settleOf fuel) b i bids
 
@@ -73,15 +73,15 @@ testedFor b i = testOpen (b .market .slack .p) (b .market .slack .q) (live b i) 
 abbrev pub pickedFor : Auction → ℕ → BestEdge
 pickedFor b i = pickOf (b .market .slack .q) (testedFor b i) (priceAt b) (b .market .items)
 
-abbrev pub handedFor : Auction → ℕ → ℕ → ℕ → ℕ → HandedOver
-handedFor b i k w u = handedOver (priced b k w) i k u
+abbrev pub handedFor : Auction → ℕ → ℕ → Pence → Scaled → Scaled → HandedOver
+handedFor b i k w u s = handedOver (priced b k (w .0) (u .0 - s .0)) i k (s .0)
 
 pub record InTurn (again : Auction → ℕ → ℕ → Outcome AfterChain) (b : Auction) (i bids : ℕ) : Type 0 where
   pub nothing : pickedFor b i ≡ Nothing → bidUntilNow again b i bids ≡ done (afterChain b bids)
-  pub free : (k : ℕ) (w : Pence) (u : Scaled) → pickedFor b i ≡ At k w u → handedFor b i k (w .0) (u .0) .before ≡ Free →
-      bidUntilNow again b i bids ≡ done (afterChain (handedFor b i k (w .0) (u .0) .auction) (bids + 1))
-  pub held : (k : ℕ) (w : Pence) (u : Scaled) (x : ℕ) → pickedFor b i ≡ At k w u → handedFor b i k (w .0) (u .0) .before ≡ Held x →
-      bidUntilNow again b i bids ≡ again (handedFor b i k (w .0) (u .0) .auction) x (bids + 1)
+  pub free : (k : ℕ) (w : Pence) (u s : Scaled) → pickedFor b i ≡ At k w u s → handedFor b i k w u s .before ≡ Free →
+      bidUntilNow again b i bids ≡ done (afterChain (handedFor b i k w u s .auction) (bids + 1))
+  pub held : (k : ℕ) (w : Pence) (u s : Scaled) (x : ℕ) → pickedFor b i ≡ At k w u s → handedFor b i k w u s .before ≡ Held x →
+      bidUntilNow again b i bids ≡ again (handedFor b i k w u s .auction) x (bids + 1)
 
 abbrev pub StepsInTurn : Type 0
 StepsInTurn = (again : Auction → ℕ → ℕ → Outcome AfterChain) (b : Auction) (i bids : ℕ) → InTurn again b i bids

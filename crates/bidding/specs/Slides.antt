@@ -1,9 +1,10 @@
 -- The bid as the slides have it (document 02, R-5): "in the order of source document 002: test open entries, pick, price, hand over". The slide of the
--- multiplicative auction reads "While ∃ v ∈ V unallocated, util(uv) > ε · w(uv), v bids y_u + ε · w(uv) and allocated max util u". A function for each
--- step; then a bid, a chain, an arrival and a withdrawal in which every bid is these four in turn. SlideLaws compares each with what it was until now.
-use mathlib.Core.Bool.{cond, _&&_}
+-- multiplicative auction reads "While ∃ v ∈ V unallocated, util(uv) > ε · w(uv), v bids y_u + ε · w(uv) and allocated max util u". Since R-7 the pick also
+-- answers the second utility, the price is bid up by the lead more, and the gain is the second utility. A function for each step; then a bid, a chain, an
+-- arrival and a withdrawal in which every bid is these four in turn. SlideLaws compares each with the rule's.
+use mathlib.Core.Bool.{cond}
 use mathlib.Core.List.{List, [], _∷_}
-use Prim.Native.Nat.{ℕ, zero, suc, _+_, _*_}
+use Prim.Native.Nat.{ℕ, zero, suc, _+_, _-_, _*_}
 use lib.ListN.{set}
 use lib.Dec.{ltb}
 use Rattle.duality.specs.Steps.{utility}
@@ -12,9 +13,9 @@ use Rattle.board.specs.declared.record.Holder.{Holder}
 use Rattle.board.specs.declared.record.Holder.the-variants.{Held, Free}
 use Rattle.bidding.specs.declared.rule.BestEdge.{BestEdge}
 use Rattle.bidding.specs.declared.rule.BestEdge.the-variants.{At, Nothing}
-use Rattle.board.specs.Cells.{scaled, pence, withState, priceAt, holderAt, holderOf}
+use Rattle.board.specs.Cells.{scaled, withState, priceAt, holderAt, holderOf}
 use Rattle.board.specs.Live.{live}
-use Rattle.bidding.specs.Rule.{beats, AfterChain, afterChain, Outcome, done, spent, bestFor, bidOf, fuelOf}
+use Rattle.bidding.specs.Rule.{ranked, raisedTo, AfterChain, afterChain, Outcome, done, spent, bestFor, bidOf, fuelOf}
 use Rattle.bidding.specs.Moves.{entered}
 use Rattle.bidding.specs.Withdrawals.{vacatedTo, displacedBy, moreBids}
 
@@ -24,30 +25,27 @@ unfoldable pub testOpen : ℕ → ℕ → (ℕ → ℕ) → (ℕ → ℕ) → �
 testOpen p q w y k = cond (ltb (p * w k) (utility q (w k) (y k))) (w k) 0
 
 -- ---- Step 2, pick: "max util u". Of the edges of weights w the one of greatest utility; of equal ones the heaviest, and of these that at the lowest item.
--- An edge that step 1 has put at 0 has no utility
+-- An edge that step 1 has put at 0 has no utility. "Now the leaf that finds the best place also returns the greatest utility of any other open place of
+-- that batch, 0 if none" (document 02, R-7)
 unfoldable pub takeOf : ℕ → ℕ → ℕ → ℕ → BestEdge → BestEdge
-takeOf q k w y best =
-    cond (ltb 0 (utility q w y) && beats (utility q w y) w best) (At k (pence w) (scaled (utility q w y))) best
+takeOf q k w y best = cond (ltb 0 (utility q w y)) (ranked k w (utility q w y) best) best
 
 unfoldable pub pickOf : ℕ → (ℕ → ℕ) → (ℕ → ℕ) → ℕ → BestEdge
 pickOf q w y zero = Nothing
 pickOf q w y (suc k) = takeOf q k (w k) (y k) (pickOf q w y k)
 
--- ---- Step 3, price: "v bids y_u + ε · w(uv)", which is the item's price from then on
-abbrev pub raisedTo : ℕ → ℕ → ℕ → ℕ
-raisedTo p w y = y + p * w
-
-unfoldable pub priced : Auction → ℕ → ℕ → Auction
-priced b k w =
+-- ---- Step 3, price: "v bids y_u + ε · w(uv)", since R-7 with the lead besides, which is the item's price from then on
+unfoldable pub priced : Auction → ℕ → ℕ → ℕ → Auction
+priced b k w lead =
     withState b
     (record {
-      price = set (b .state .price) k (scaled (raisedTo (b .market .slack .p) w (priceAt b k)));
+      price = set (b .state .price) k (scaled (raisedTo (b .market .slack .p) w lead (priceAt b k)));
       holder = b .state .holder;
       gain = b .state .gain;
     })
 
--- ---- Step 4, hand over: "and allocated". The item's cell names the bidder, whose gain is u; whoever had the item has a gain of `none` (which is 0), and
--- bids next
+-- ---- Step 4, hand over: "and allocated". The item's cell names the bidder, whose gain is u, the second utility; whoever had the item has a gain of `none`
+-- (which is 0), and bids next
 abbrev pub handedTo : List ℕ → ℕ → ℕ → List ℕ
 handedTo holders k i = set holders k (suc i)
 
@@ -80,9 +78,9 @@ nextBidder again b bids (Held x) = again b x bids
 
 unfoldable pub afterPick : (Auction → ℕ → ℕ → Outcome AfterChain) → Auction → ℕ → ℕ → BestEdge → Outcome AfterChain
 afterPick again b i bids Nothing = done (afterChain b bids)
-afterPick again b i bids (At k w u) =
-    let c = priced b k (w .0) in
-    let d = handedOver c i k (u .0) in
+afterPick again b i bids (At k w u s) =
+    let c = priced b k (w .0) (u .0 - s .0) in
+    let d = handedOver c i k (s .0) in
     nextBidder again (d .auction) (bids + 1) (d .before)
 
 unfoldable pub bidBySlides : (Auction → ℕ → ℕ → Outcome AfterChain) → Auction → ℕ → ℕ → Outcome AfterChain
@@ -91,7 +89,7 @@ bidBySlides again b i bids =
     let best = pickOf (b .market .slack .q) tested (priceAt b) (b .market .items) in
     afterPick again b i bids best
 
--- The bid as defined until now: the rule's best open edge in one go, and what `bidOf` makes of it. Chains are still defined by it (Rule: settleOf)
+-- The bid as the rule defines it: the best open edge and the second in one go, and what `bidOf` makes of it. Chains are defined by it (Rule: settleOf)
 abbrev pub bidUntilNow : (Auction → ℕ → ℕ → Outcome AfterChain) → Auction → ℕ → ℕ → Outcome AfterChain
 bidUntilNow again b i bids = bidOf again b i bids (bestFor b i)
 

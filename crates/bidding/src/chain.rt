@@ -12,6 +12,7 @@ use board::record::Auction;
 use board::record::Holder;
 use board::record::Market;
 use board::record::State;
+use board::units::Scaled;
 ghost use mathlib.Core.Path.{_≡_};
 ghost use mathlib.Core.Bool.{true};
 ghost use Rattle.board.specs.Cells.{auction, flagAt};
@@ -58,13 +59,15 @@ pub fn settle(
             item,
             weight,
             utility,
+            second,
         } = best
         else {
             state = state_of(prices, holders, gains);
             return ChainEnd { state, bids };
         };
-        raise(&mut prices, &mut floors, item, weight, slack);
-        let holder = hand_over(&mut holders, &mut gains, item, next, utility);
+        let lead = Scaled(utility.0 - second.0);
+        raise(&mut prices, &mut floors, item, weight, lead, slack);
+        let holder = hand_over(&mut holders, &mut gains, item, next, second);
         bids += 1;
         let Holder::Held(displaced) = holder else {
             state = state_of(prices, holders, gains);

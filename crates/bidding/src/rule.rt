@@ -2,7 +2,8 @@
 // y_u + ε · w(uv) and allocated max util u". Here v is the bidder, u an item, y_u its price, and ε the slack p/q; all in q-ths of a penny, so that
 // util(uv) = w(uv) - y_u is q × w - y, and ε · w(uv) is p × w. A function for each step, in the order in which `settle` calls them: test open edges, pick,
 // price, hand over. "While ∃ v ∈ V unallocated" is the loop of `settle`, and that of `settle_all`
-// where a list of items was withdrawn.
+// where a list of items was withdrawn. Since R-7 (document 02, "The bigger bid") the pick also answers the second utility: the gain becomes it, and the
+// price rises by the lead over it besides.
 use crate::floors::floor_of;
 use board::record::Auction;
 use board::record::Holder;
@@ -12,7 +13,7 @@ use board::units::Scaled;
 use board::units::Slack;
 use board::units::weight_in;
 ghost use mathlib.Core.Path.{_≡_};
-ghost use mathlib.Core.Bool.{cond, _||_};
+ghost use mathlib.Core.Bool.{cond};
 ghost use mathlib.Core.List.{List};
 ghost use Prim.Native.Nat.{ℕ, _+_, _*_, _≤_, _<_};
 ghost use lib.ListN.{length, set};
@@ -23,15 +24,17 @@ ghost use Rattle.board.specs.Cells.{holderOf};
 ghost use Rattle.board.specs.Live.{liveIn};
 ghost use Rattle.board.specs.Lent.{written};
 ghost use Rattle.bidding.specs.Floors.{floorOf, Floors, Weighs};
-ghost use Rattle.bidding.specs.Slides.{testOpen, takeOf, pickOf, raisedTo, handedTo, gainsTo};
-ghost use Rattle.bidding.specs.Leader.{edgeOf, LeaderFits};
+ghost use Rattle.bidding.specs.Rule.{beats, ranked, raisedTo};
+ghost use Rattle.bidding.specs.Slides.{testOpen, takeOf, pickOf, handedTo, gainsTo};
+ghost use Rattle.bidding.specs.Leader.{secondIn, edgeOf, LeaderFits, Offered};
 
-// The edge that is picked.
+// The edge that is picked, with its utility and the greatest of any other open edge.
 pub enum BestEdge {
     At {
         item: usize,
         weight: Pence,
         utility: Scaled,
+        second: Scaled,
     },
     Nothing,
 }
@@ -66,75 +69,114 @@ pub(crate) fn test_open<'a>(
     }
 }
 
-// The best of the edges looked at. The bar is its utility less 1, so that an edge of equal utility is above it, and is compared by weight. Before the
-// first open edge there is no weight, and the bar is 0.
+// The best of the edges looked at. An edge whose utility is not above the bar is neither best nor second: the bar is the second utility less 1, and 0 while
+// there is no second. Before the first open edge there is no weight, and the utility is 1, which no open edge has.
 struct Leader {
     item: usize,
     weight: Pence,
+    utility: Scaled,
     bar: Scaled,
 }
 
-// Whether an edge whose utility is above the bar goes before the leader: its utility is greater, or its weight is.
+// Whether an edge goes before the leader: its utility is greater, or equal and its weight is greater.
 fn goes_before(utility: Scaled, weight: Pence, leader: Leader) -> bool
-    requires { ⌜ leader .bar .0 ≤ maxQ * wordLimit ⌝ }
-    ensures { λ r. ⌜ r ≡ (ltb (leader .bar .0 + 1) (utility .0) || ltb (leader .weight .0) (weight .0)) ⌝ }
+    ensures { λ r. ⌜ r ≡ beats (utility .0) (weight .0) (leader .utility .0) (leader .weight .0) ⌝ }
 {
-    if leader.bar.0 + 1 < utility.0 {
+    if leader.utility.0 < utility.0 {
         return true;
+    }
+    if utility.0 < leader.utility.0 {
+        return false;
     }
     leader.weight.0 < weight.0
 }
 
+// The leader, after an edge whose utility is above the bar: the edge leads, and the leader's utility is the second; or its own is.
+fn overtaken(leader: Leader, item: usize, weight: Pence, utility: Scaled) -> Leader
+    requires { ⌜ (0 < weight .0) × (1 < utility .0) × (utility .0 ≤ maxQ * wordLimit) × (leader .bar .0 < utility .0) × LeaderFits (leader .weight .0) (leader .utility .0) (leader .bar .0) ⌝ }
+    ensures { λ r. ⌜ LeaderFits (r .weight .0) (r .utility .0) (r .bar .0) ×
+        (edgeOf (r .item) (r .weight) (r .utility) (r .bar .0) ≡ ranked item (weight .0) (utility .0) (edgeOf (leader .item) (leader .weight) (leader .utility) (leader .bar .0))) ⌝ }
+{
+    if goes_before(utility, weight, leader) {
+        return Leader {
+            item,
+            weight,
+            utility,
+            bar: Scaled(leader.utility.0 - 1),
+        };
+    }
+    let kept = leader.weight;
+    let best = leader.utility;
+    Leader {
+        item: leader.item,
+        weight: kept,
+        utility: best,
+        bar: Scaled(utility.0 - 1),
+    }
+}
+
 // The leader, after one more edge has been looked at.
 fn offer(leader: Leader, item: usize, weight: Pence, price: Scaled, slack: Slack) -> Leader
-    requires { ⌜ (slack .q ≤ maxQ) × (weight .0 < wordLimit) × (price .0 ≤ maxQ * wordLimit) × LeaderFits (leader .weight .0) (leader .bar .0) ⌝ }
-    ensures { λ r. ⌜ LeaderFits (r .weight .0) (r .bar .0) ×
-        (edgeOf (r .item) (r .weight) (r .bar .0) ≡ takeOf (slack .q) item (weight .0) (price .0) (edgeOf (leader .item) (leader .weight) (leader .bar .0))) ⌝ }
+    requires { ⌜ (slack .q ≤ maxQ) × (weight .0 < wordLimit) × (price .0 ≤ maxQ * wordLimit) × Offered (slack .q) (weight .0) (price .0) ×
+        LeaderFits (leader .weight .0) (leader .utility .0) (leader .bar .0) ⌝ }
+    ensures { λ r. ⌜ LeaderFits (r .weight .0) (r .utility .0) (r .bar .0) ×
+        (edgeOf (r .item) (r .weight) (r .utility) (r .bar .0) ≡ takeOf (slack .q) item (weight .0) (price .0) (edgeOf (leader .item) (leader .weight) (leader .utility) (leader .bar .0))) ⌝ }
 {
     // q × w is at most y + bar: the utility q × w - y is not above the bar.
     if !slack.exceeds(weight, Scaled(price.0 + leader.bar.0)) {
         return leader;
     }
     let utility = slack.utility(weight, price);
-    if goes_before(utility, weight, leader) {
-        return Leader {
-            item,
-            weight,
-            bar: Scaled(utility.0 - 1),
-        };
+    overtaken(leader, item, weight, utility)
+}
+
+// The second utility that a bar stands for.
+fn second_in(bar: Scaled) -> Scaled
+    requires { ⌜ bar .0 ≤ maxQ * wordLimit ⌝ }
+    ensures { λ r. ⌜ r .0 ≡ secondIn (bar .0) ⌝ }
+{
+    if bar.0 == 0 {
+        return Scaled(0);
     }
-    leader
+    Scaled(bar.0 + 1)
 }
 
 // The leader as an answer.
 fn picked(leader: Leader) -> BestEdge
     requires { ⌜ leader .bar .0 ≤ maxQ * wordLimit ⌝ }
-    ensures { λ r. ⌜ r ≡ edgeOf (leader .item) (leader .weight) (leader .bar .0) ⌝ }
+    ensures { λ r. ⌜ r ≡ edgeOf (leader .item) (leader .weight) (leader .utility) (leader .bar .0) ⌝ }
 {
     if leader.weight.0 == 0 {
         return BestEdge::Nothing;
     }
     let weight = leader.weight;
+    let utility = leader.utility;
+    let bar = leader.bar;
+    let second = second_in(bar);
     BestEdge::At {
         item: leader.item,
         weight,
-        utility: Scaled(leader.bar.0 + 1),
+        utility,
+        second,
     }
 }
 
-// Step 2, pick. The slide: "max util u". Of the open edges that of greatest utility; of equal ones the heaviest, and of these that at the lowest item.
+// Step 2, pick. The slide: "max util u". Of the open edges that of greatest utility; of equal ones the heaviest, and of these that at the lowest item. With
+// it the greatest utility of any other open edge, 0 if there is none.
 pub(crate) fn pick<'a>(
     tested: &'a [u32; Auction::MAX_ITEMS],
     prices: &'a [u64; Auction::MAX_ITEMS],
     items: usize,
     slack: Slack,
 ) -> BestEdge
-    requires { ⌜ (items ≤ maxItems) × (slack .q ≤ maxQ) × ((k : ℕ) → k < items → cells (now prices) k ≤ maxQ * wordLimit) ⌝ }
+    requires { ⌜ (items ≤ maxItems) × (slack .q ≤ maxQ) × ((k : ℕ) → k < items → cells (now prices) k ≤ maxQ * wordLimit) ×
+        ((k : ℕ) → k < items → Offered (slack .q) (cells (now tested) k) (cells (now prices) k)) ⌝ }
     ensures { λ r. ⌜ r ≡ pickOf (slack .q) (cells (now (tested .entry))) (cells (now (prices .entry))) items ⌝ }
 {
     let mut leader = Leader {
         item: 0,
         weight: Pence(0),
+        utility: Scaled(1),
         bar: Scaled(0),
     };
     let mut k: usize = 0;
@@ -145,39 +187,42 @@ pub(crate) fn pick<'a>(
     picked(leader)
 }
 
-// Step 3, price. The slide: "v bids y_u + ε · w(uv)", which becomes the price. The item's floor rises with it.
+// Step 3, price. The slide: "v bids y_u + ε · w(uv)", here with the lead besides, which becomes the price. The item's floor rises with it.
 pub(crate) fn raise(
     prices: &mut [u64; Auction::MAX_ITEMS],
     floors: &mut [u32; Auction::MAX_ITEMS],
     item: usize,
     weight: Pence,
+    lead: Scaled,
     slack: Slack,
 )
-    requires { ⌜ (item < maxItems) × (slack .p < slack .q) × (slack .q ≤ maxQ) × (weight .0 < wordLimit) × (cells (now prices) item ≤ maxQ * wordLimit) ⌝ }
-    ensures { λ _. ⌜ (now (prices .exit) ≡ set (now (prices .entry)) item (raisedTo (slack .p) (weight .0) (cells (now (prices .entry)) item))) ×
-        (now (floors .exit) ≡ set (now (floors .entry)) item (floorOf (slack .p) (slack .q) (raisedTo (slack .p) (weight .0) (cells (now (prices .entry)) item)))) ⌝ }
+    requires { ⌜ (item < maxItems) × (slack .p < slack .q) × (slack .q ≤ maxQ) × (weight .0 < wordLimit) × (lead .0 ≤ maxQ * wordLimit) × (cells (now prices) item ≤ maxQ * wordLimit) ⌝ }
+    ensures { λ _. ⌜ (now (prices .exit) ≡ set (now (prices .entry)) item (raisedTo (slack .p) (weight .0) (lead .0) (cells (now (prices .entry)) item))) ×
+        (now (floors .exit) ≡ set (now (floors .entry)) item (floorOf (slack .p) (slack .q) (raisedTo (slack .p) (weight .0) (lead .0) (cells (now (prices .entry)) item)))) ⌝ }
 {
-    let price = Scaled(prices[item] + slack.step(weight).0);
+    let rise = lead.0 + slack.step(weight).0;
+    let price = Scaled(prices[item] + rise);
     prices[item] = price.0;
     floors[item] = floor_of(price, slack);
 }
 
-// Step 4, hand over. The slide: "and allocated". The bidder has the item, and its gain is its utility; whoever had the item is unallocated, with gain 0.
+// Step 4, hand over. The slide: "and allocated". The bidder has the item, and its gain is the second utility; whoever had the item is unallocated, with
+// gain 0.
 pub(crate) fn hand_over(
     holders: &mut [u8; Auction::MAX_ITEMS],
     gains: &mut [u64; Auction::MAX_BIDDERS],
     item: usize,
     bidder: usize,
-    utility: Scaled,
+    second: Scaled,
 ) -> Holder
     requires { ⌜ (item < maxItems) × (bidder < maxBidders) × (cells (now holders) item ≤ maxBidders) ⌝ }
     ensures { λ r. ⌜ (r ≡ holderOf (cells (now (holders .entry)) item)) ×
         (now (holders .exit) ≡ handedTo (now (holders .entry)) item bidder) ×
-        (now (gains .exit) ≡ gainsTo 0 (now (gains .entry)) bidder (utility .0) (holderOf (cells (now (holders .entry)) item))) ⌝ }
+        (now (gains .exit) ≡ gainsTo 0 (now (gains .entry)) bidder (second .0) (holderOf (cells (now (holders .entry)) item))) ⌝ }
 {
     let before = holder_of(holders[item]);
     holders[item] = (bidder + 1) as u8;
-    gains[bidder] = utility.0;
+    gains[bidder] = second.0;
     if let Holder::Held(displaced) = before {
         gains[displaced] = 0;
     }

@@ -16,9 +16,9 @@ maxWeight = 1000000
 abbrev pub maxQ : ℕ
 maxQ = 1000
 
--- "above 1,000,000,000": the most that a price or a gain may be that was made elsewhere
+-- "Refusal 11's limit of 1,000,000,000 becomes 2,000,000,000" (document 02, R-7): the most that a price or a gain may be that was made elsewhere
 abbrev pub maxPrice : ℕ
-maxPrice = 1000000000
+maxPrice = 2000000000
 
 -- One edge, or named item, more than there are items: so many decide every refusal of an arrival or a withdrawal
 abbrev pub maxEdges : ℕ

@@ -52,7 +52,7 @@ impl Auction {
 
     pub const MAX_Q: u64 = 1000;
     // The most that a price or a gain may be that was made elsewhere, in q-ths of a penny.
-    pub const MAX_PRICE: u64 = 1000000000;
+    pub const MAX_PRICE: u64 = 2000000000;
     // One more edge than there are items: so many decide every refusal of an arrival.
     pub const MAX_EDGES: usize = Auction::MAX_ITEMS + 1;
     // The most bytes of a history text.

@@ -42,7 +42,7 @@ use Rattle.history.specs.Plan.{sheetOf, printedBy, printed}
 use Rattle.layout.specs.Page.{padded, heading, rowLine, breaks}
 use Rattle.page.specs.Rows.{boardPage}
 use Rattle.history.specs.Wall.{wallBy, wallFrom, wallOf}
-use Rattle.cases.specs.Pages.{head, line1, line2, line2Unplaced}
+use Rattle.cases.specs.Pages.{head, line1, line2, line2Unplaced, tied1, tied2}
 use Rattle.cases.specs.Text.{text1, printed1, text2, printed2, textTied, printedTied, printedBare, textDouble, printedDouble, firstLine1, texts, Texts, Starred}
 use Rattle.cases.proofs.Skips.{arrive-skips, withdraw-skips}
 use Rattle.cases.proofs.Table.{cases}
@@ -102,9 +102,12 @@ lines-skip (suc fuel) s at n b bids sound =
     (line-skips (λ c more. linesFrom fuel s (lineAt s at .next) (n + 1) c more) (λ c more. skipLines fuel s (lineAt s at .next) (n + 1) c more)
     (λ c more. lines-skip fuel s (lineAt s at .next) (n + 1) c more) n b bids sound (commandOf (lineAt s at)))
 
--- The boards that the texts open: two items of one place each at 1/10, and one of two places at 1/2
+-- The boards that the texts open: two items of one place each at 1/10, three of these, and one of two places at 1/2
 abbrev plain : Board
 plain = opened 1 10 (1 ∷ 1 ∷ [])
+
+abbrev three : Board
+three = opened 1 10 (1 ∷ 1 ∷ 1 ∷ [])
 
 abbrev double : Board
 double = opened 1 2 (2 ∷ [])
@@ -112,6 +115,10 @@ double = opened 1 2 (2 ∷ [])
 plain-sound : Sound plain
 unfolding openChecks eachChecks slackTest withinTest firstOf
 plain-sound = opened-sound 2 1 10 (1 ∷ 1 ∷ []) refl
+
+three-sound : Sound three
+unfolding openChecks eachChecks slackTest withinTest firstOf
+three-sound = opened-sound 3 1 10 (1 ∷ 1 ∷ 1 ∷ []) refl
 
 double-sound : Sound double
 unfolding openChecks eachChecks slackTest withinTest firstOf
@@ -157,14 +164,14 @@ plain-page : (s out : List ℕ) → Opens s → PrintsPage s out → wallOf s �
 plain-page s out e f = opens-page s 9 2 plain plain-sound e out f
 
 -- The texts of the table that open such a board, in its order
-all-open : Opens text1 × Opens text2 × Opens textTied × Opens (firstLine1 ++ (65 ∷ 9 ∷ 51 ∷ 9 ∷ 53 ∷ 10 ∷ [])) × Opens (firstLine1 ++ ((87 ∷ 9 ∷ 49 ∷ 10 ∷ []) ++ (87 ∷ 9 ∷ 49 ∷ 10 ∷ []))) ×
+all-open : Opens text1 × Opens text2 × OpensTo textTied 9 2 three × Opens (firstLine1 ++ (65 ∷ 9 ∷ 51 ∷ 9 ∷ 53 ∷ 10 ∷ [])) × Opens (firstLine1 ++ ((87 ∷ 9 ∷ 49 ∷ 10 ∷ []) ++ (87 ∷ 9 ∷ 49 ∷ 10 ∷ []))) ×
     Opens (text1 ++ (87 ∷ 9 ∷ 49 ∷ 9 ∷ 50 ∷ 10 ∷ [])) × Opens (firstLine1 ++ (87 ∷ 10 ∷ [])) ×
     Opens (firstLine1 ++ (87 ∷ 9 ∷ 49 ∷ [])) × Opens (firstLine1 ++ (65 ∷ 9 ∷ 51 ∷ 10 ∷ [])) ×
     Opens (firstLine1 ++ ((65 ∷ 10 ∷ []) ++ (80 ∷ 9 ∷ 49 ∷ 9 ∷ 50 ∷ 10 ∷ [])))
 unfolding replayOf firstLine afterOpened placeLines placeLine commandOf lineAt fieldsAt fieldAt openOf openBy openChecks eachChecks slackTest withinTest firstOf
 all-open = (refl, refl, refl, refl, refl, refl, refl, refl, refl, refl)
 
-all-print : Prints text1 printed1 × Prints text2 printed2 × Prints textTied printedTied ×
+all-print : Prints text1 printed1 × Prints text2 printed2 × (printed (Further textTied 9 2 three) ≡ printedTied) ×
     Prints (firstLine1 ++ (65 ∷ 9 ∷ 51 ∷ 9 ∷ 53 ∷ 10 ∷ [])) (82 ∷ 9 ∷ 52 ∷ 9 ∷ 50 ∷ 10 ∷ []) ×
     Prints (firstLine1 ++ ((87 ∷ 9 ∷ 49 ∷ 10 ∷ []) ++ (87 ∷ 9 ∷ 49 ∷ 10 ∷ []))) (82 ∷ 9 ∷ 53 ∷ 9 ∷ 51 ∷ 10 ∷ []) ×
     Prints (text1 ++ (87 ∷ 9 ∷ 49 ∷ 9 ∷ 50 ∷ 10 ∷ [])) printedBare ×
@@ -194,17 +201,19 @@ unfolding
     itemsOf place.opened opened written spreadRow arriveRest entered arrivalOf arrivedOf arriveBy
 double-prints = refl
 
-all-paper : PrintsPage text1 (head ++ (line1 ++ line2)) × PrintsPage text2 (head ++ (line1 ++ line2Unplaced))
+all-paper : PrintsPage text1 (head ++ (line1 ++ line2)) × PrintsPage text2 (head ++ (line1 ++ line2Unplaced)) ×
+    (wallFrom (Further textTied 9 2 three) ≡ head ++ (tied1 ++ tied2))
 unfolding
     skipLines skipOut lineAt fieldsAt fieldAt commandOf pairsOf afterArrival afterArrived afterWithdrawal afterWithdrawn wallFrom wallBy boardPage decimal padded heading rowLine breaks
     heldBy edgeCount offerOf bestOf placedAt displaced handOver bidOf settleOf firstOf withinTest orderTest edgeChecks itemChecks eachChecks rowTo carryOut
     itemsOf place.opened opened written spreadRow numbersFrom placesNamed
     arriveRest entered arrivalOf arrivedOf arriveBy withdrawRest released withdrawalOf withdrawBy
     displacedIf vacated vacatedTo namedIn rollOf moreBids nextChain chainsFrom withdrawnOf
-all-paper = (refl, refl)
+all-paper = (refl, refl, refl)
 
-pub walls-print : (wallOf text1 ≡ head ++ (line1 ++ line2)) × (wallOf text2 ≡ head ++ (line1 ++ line2Unplaced))
-walls-print = (plain-page _ _ (all-open .0) (all-paper .0), plain-page _ _ (all-open .1) (all-paper .1))
+pub walls-print : (wallOf text1 ≡ head ++ (line1 ++ line2)) × (wallOf text2 ≡ head ++ (line1 ++ line2Unplaced)) × (wallOf textTied ≡ head ++ (tied1 ++ tied2))
+walls-print =
+    (plain-page _ _ (all-open .0) (all-paper .0), plain-page _ _ (all-open .1) (all-paper .1), opens-page _ 9 2 three three-sound (all-open .2) _ (all-paper .2))
 
 -- Refused at the first line, or without one
 slack-refused : sheetOf (75 ∷ 9 ∷ 50 ∷ 9 ∷ 53 ∷ 9 ∷ 53 ∷ 10 ∷ []) ≡ 82 ∷ 9 ∷ 50 ∷ 9 ∷ 49 ∷ 10 ∷ []
@@ -235,7 +244,7 @@ unfolding texts
 texts-print =
     also (plain-so _ _ (all-open .0) (all-print .0)) (
     also (plain-so _ _ (all-open .1) (all-print .1)) (
-    also (plain-so _ _ (all-open .2) (all-print .2)) (
+    also (opens-so _ 9 2 three three-sound (all-open .2) _ (all-print .2)) (
     also (plain-so _ _ (all-open .3) (all-print .3)) (
     also (plain-so _ _ (all-open .4) (all-print .4)) (
     also (plain-so _ _ (all-open .5) (all-print .5)) (

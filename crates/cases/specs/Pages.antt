@@ -8,18 +8,25 @@ use Rattle.layout.specs.Row.{rowIs, unplaced}
 use Rattle.layout.specs.Page.{pageOf}
 use Rattle.layout.specs.Read.{got, bad, readOf}
 use Rattle.history.specs.Wall.{wallOf}
-use Rattle.cases.specs.Text.{text1, text2}
+use Rattle.cases.specs.Text.{text1, text2, textTied}
 
 -- BAT KT   WORTH       GAIN, and byte 10
 abbrev pub head : List ℕ
 head = 66 ∷ 65 ∷ 84 ∷ 32 ∷ 75 ∷ 84 ∷ 32 ∷ 32 ∷ 32 ∷ 87 ∷ 79 ∷ 82 ∷ 84 ∷ 72 ∷ 32 ∷ 32 ∷ 32 ∷ 32 ∷ 32 ∷ 32 ∷ 32 ∷ 71 ∷ 65 ∷ 73 ∷ 78 ∷ 10 ∷ []
 
--- "  1  2      60        600", "  2  1      90        420", "  2 --       0          0", each with its byte 10
+-- "  1  2      60          0", "  2  1      90          0", "  2 --       0          0", and of the tie "  1  3     100        840", "  2  2      60        500",
+-- each with its byte 10
 abbrev pub line1 : List ℕ
-line1 = 32 ∷ 32 ∷ 49 ∷ 32 ∷ 32 ∷ 50 ∷ 32 ∷ 32 ∷ 32 ∷ 32 ∷ 32 ∷ 32 ∷ 54 ∷ 48 ∷ 32 ∷ 32 ∷ 32 ∷ 32 ∷ 32 ∷ 32 ∷ 32 ∷ 32 ∷ 54 ∷ 48 ∷ 48 ∷ 10 ∷ []
+line1 = 32 ∷ 32 ∷ 49 ∷ 32 ∷ 32 ∷ 50 ∷ 32 ∷ 32 ∷ 32 ∷ 32 ∷ 32 ∷ 32 ∷ 54 ∷ 48 ∷ 32 ∷ 32 ∷ 32 ∷ 32 ∷ 32 ∷ 32 ∷ 32 ∷ 32 ∷ 32 ∷ 32 ∷ 48 ∷ 10 ∷ []
 
 abbrev pub line2 : List ℕ
-line2 = 32 ∷ 32 ∷ 50 ∷ 32 ∷ 32 ∷ 49 ∷ 32 ∷ 32 ∷ 32 ∷ 32 ∷ 32 ∷ 32 ∷ 57 ∷ 48 ∷ 32 ∷ 32 ∷ 32 ∷ 32 ∷ 32 ∷ 32 ∷ 32 ∷ 32 ∷ 52 ∷ 50 ∷ 48 ∷ 10 ∷ []
+line2 = 32 ∷ 32 ∷ 50 ∷ 32 ∷ 32 ∷ 49 ∷ 32 ∷ 32 ∷ 32 ∷ 32 ∷ 32 ∷ 32 ∷ 57 ∷ 48 ∷ 32 ∷ 32 ∷ 32 ∷ 32 ∷ 32 ∷ 32 ∷ 32 ∷ 32 ∷ 32 ∷ 32 ∷ 48 ∷ 10 ∷ []
+
+abbrev pub tied1 : List ℕ
+tied1 = 32 ∷ 32 ∷ 49 ∷ 32 ∷ 32 ∷ 51 ∷ 32 ∷ 32 ∷ 32 ∷ 32 ∷ 32 ∷ 49 ∷ 48 ∷ 48 ∷ 32 ∷ 32 ∷ 32 ∷ 32 ∷ 32 ∷ 32 ∷ 32 ∷ 32 ∷ 56 ∷ 52 ∷ 48 ∷ 10 ∷ []
+
+abbrev pub tied2 : List ℕ
+tied2 = 32 ∷ 32 ∷ 50 ∷ 32 ∷ 32 ∷ 50 ∷ 32 ∷ 32 ∷ 32 ∷ 32 ∷ 32 ∷ 32 ∷ 54 ∷ 48 ∷ 32 ∷ 32 ∷ 32 ∷ 32 ∷ 32 ∷ 32 ∷ 32 ∷ 32 ∷ 53 ∷ 48 ∷ 48 ∷ 10 ∷ []
 
 abbrev pub line2Unplaced : List ℕ
 line2Unplaced = 32 ∷ 32 ∷ 50 ∷ 32 ∷ 45 ∷ 45 ∷ 32 ∷ 32 ∷ 32 ∷ 32 ∷ 32 ∷ 32 ∷ 32 ∷ 48 ∷ 32 ∷ 32 ∷ 32 ∷ 32 ∷ 32 ∷ 32 ∷ 32 ∷ 32 ∷ 32 ∷ 32 ∷ 48 ∷ 10 ∷ []
@@ -35,8 +42,11 @@ pub record Pages : Type 0 where
   -- Case 1, and case 2 after it, on paper
   pub wall1 : wallOf text1 ≡ head ++ (line1 ++ line2)
   pub wall2 : wallOf text2 ≡ head ++ (line1 ++ line2Unplaced)
-  pub read1 : readOf (head ++ (line1 ++ line2)) ≡ got (rowIs 2 60 600 ∷ rowIs 1 90 420 ∷ [])
-  pub read2 : readOf (head ++ (line1 ++ line2Unplaced)) ≡ got (rowIs 2 60 600 ∷ unplaced ∷ [])
+  pub read1 : readOf (head ++ (line1 ++ line2)) ≡ got (rowIs 2 60 0 ∷ rowIs 1 90 0 ∷ [])
+  pub read2 : readOf (head ++ (line1 ++ line2Unplaced)) ≡ got (rowIs 2 60 0 ∷ unplaced ∷ [])
+  -- The tie of R-1, with gains
+  pub wallTied : wallOf textTied ≡ head ++ (tied1 ++ tied2)
+  pub readTied : readOf (head ++ (tied1 ++ tied2)) ≡ got (rowIs 3 100 840 ∷ rowIs 2 60 500 ∷ [])
   -- "a page read may name a kettle more than once", and the limits themselves may stand there: "  1 64 1000000 2000000000", "  2 64       1          0"
   pub most : readOf (head ++ (32 ∷ 32 ∷ 49 ∷ 32 ∷ 54 ∷ 52 ∷ 32 ∷ 49 ∷ 48 ∷ 48 ∷ 48 ∷ 48 ∷ 48 ∷ 48 ∷ 32 ∷ 50 ∷ 48 ∷ 48 ∷ 48 ∷ 48 ∷ 48 ∷ 48 ∷ 48 ∷ 48 ∷ 48 ∷ 10 ∷ 32 ∷ 32 ∷ 50 ∷ 32 ∷ 54 ∷ 52 ∷ 32 ∷ 32 ∷ 32 ∷ 32 ∷ 32 ∷ 32 ∷ 32 ∷ 49 ∷ 32 ∷ 32 ∷ 32 ∷ 32 ∷ 32 ∷ 32 ∷ 32 ∷ 32 ∷ 32 ∷ 32 ∷ 48 ∷ 10 ∷ [])) ≡ got (rowIs 64 1000000 2000000000 ∷ rowIs 64 1 0 ∷ [])
   -- "14 at its first bad line": the empty text, a form feed before the first heading, a heading twice

@@ -71,10 +71,10 @@ refusals =
     (row (on 2 1 10 (one (check (lists [] (0 ∷ []) []) 0 1))) (refused 9 0) ∷
     (row (on 2 1 10 (one (check (lists [] (0 ∷ []) []) 5 5))) (refused 2 0) ∷
     -- 10 "named by an earlier batch", at the later batch; it comes before 11
-    (row (on 1 1 10 (arrive (edge 1 5 ∷ []) ∷ (arrive (edge 1 5 ∷ []) ∷ one (check (lists (1 ∷ (1 ∷ [])) (1000000001 ∷ []) (0 ∷ (0 ∷ []))) 0 1)))) (refused 10 2) ∷
-    -- 11 "above 1,000,000,000", at the kettle; "or k + batch for a gain"; it comes before 12
-    (row (on 2 1 10 (after1 (lists (2 ∷ (1 ∷ [])) (0 ∷ (1000000001 ∷ [])) (0 ∷ (0 ∷ []))))) (refused 11 2) ∷
-    (row (on 2 1 10 (after1 (lists (2 ∷ (1 ∷ [])) (0 ∷ (0 ∷ [])) (0 ∷ (1000000001 ∷ []))))) (refused 11 4) ∷
+    (row (on 1 1 10 (arrive (edge 1 5 ∷ []) ∷ (arrive (edge 1 5 ∷ []) ∷ one (check (lists (1 ∷ (1 ∷ [])) (2000000001 ∷ []) (0 ∷ (0 ∷ []))) 0 1)))) (refused 10 2) ∷
+    -- 11 "above 2,000,000,000", at the kettle; "or k + batch for a gain"; it comes before 12
+    (row (on 2 1 10 (after1 (lists (2 ∷ (1 ∷ [])) (0 ∷ (2000000001 ∷ [])) (0 ∷ (0 ∷ []))))) (refused 11 2) ∷
+    (row (on 2 1 10 (after1 (lists (2 ∷ (1 ∷ [])) (0 ∷ (0 ∷ [])) (0 ∷ (2000000001 ∷ []))))) (refused 11 4) ∷
     -- 12 "a live entry not covered", at the batch
     (row (on 2 1 10 (after1 (lists (2 ∷ (1 ∷ [])) (40 ∷ (0 ∷ [])) (60 ∷ (49 ∷ []))))) (refused 12 2) ∷ []))))))))))))))))))))))))))
 

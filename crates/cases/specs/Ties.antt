@@ -1,6 +1,6 @@
--- Choices among two items of equal utility, worked on the rule itself.
+-- Choices among two items of equal utility, and the second utility beside each, worked on the rule itself.
 use Prim.Native.Nat.{ℕ, zero, suc}
-use Rattle.bidding.specs.Rule.{Chosen}
+use Rattle.bidding.specs.Rule.{Chosen, Second}
 
 -- The numbers of two items, by index
 abbrev pub two : ℕ → ℕ → ℕ → ℕ
@@ -19,3 +19,9 @@ pub record Ties : Type 0 where
   pub utility : Chosen 1 10 2 (two 50 60) (two 0 101) 0
   -- "equality is not open": at 1/2, kettle 2 priced 100 and worth 100 has the utility of kettle 1, and more worth, and is not taken
   pub shut : Chosen 1 2 2 (two 50 100) (two 0 100) 0
+  -- Document 02, R-7, "the greatest utility of any other open place of that batch": of two equal ones the other's, so that the lead is 0
+  pub even : Second 1 10 2 (two 50 60) (two 0 100) 1 500
+  -- 10 × 60 - 101 beside 10 × 50: the lead is 1
+  pub lead : Second 1 10 2 (two 50 60) (two 0 101) 0 499
+  -- "0 if none": an entry that is not open is no second, whatever its utility
+  pub alone : Second 1 2 2 (two 50 100) (two 0 100) 0 0

@@ -23,7 +23,7 @@ pub record Accepted (b : Board) (l : Lists) (p q : ℕ) : Type 0 where
   pub even : Even b l
   -- "A plan gives each batch one kettle or none, only along entries, and no kettle to two batches"
   pub matches : IsPlan (b .market .arrived) (b .items .count) (placesAt b) (live b) (cells (l .plan))
-  -- "above 1,000,000,000, or a withdrawn kettle's not 0" is met nowhere
+  -- "above 2,000,000,000, or a withdrawn kettle's not 0" is met nowhere
   pub prices : (k : ℕ) → k < b .items .count → cells (l .prices) k ≤ maxPrice
   pub withdrawn : (k : ℕ) → k < b .items .count → withdrawnAt b k ≡ true → cells (l .prices) k ≡ 0
   pub gains : (i : ℕ) → i < b .market .arrived → cells (l .gains) i ≤ maxPrice

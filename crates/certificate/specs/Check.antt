@@ -37,7 +37,7 @@ pub record Even (b : Board) (l : Lists) : Type 0 where
   pub prices : length (l .prices) ≡ b .items .count
   pub gains : length (l .gains) ≡ b .market .arrived
 
--- "above 1,000,000,000, or a withdrawn kettle's not 0"
+-- "above 2,000,000,000 (document 02, R-7), or a withdrawn kettle's not 0"
 pub data PriceBad (b : Board) (prices : ℕ → ℕ) (k : ℕ) : Type 0 where
   high : maxPrice < prices k → PriceBad b prices k
   gone : withdrawnAt b k ≡ true → 0 < prices k → PriceBad b prices k

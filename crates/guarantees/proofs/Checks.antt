@@ -27,13 +27,12 @@ use Rattle.supply.specs.ByItem.{live, gainAt, priceAt, matchingOf, matchingWeig
 use Rattle.supply.specs.Laws.{OverPlaces}
 use Rattle.supply.specs.Sound.{Sound}
 use Rattle.supply.proofs.SoundLaw.{sound-decides}
-use Rattle.supply.proofs.ByItem.{first-place, price-most, gone-least, sound-over-places}
+use Rattle.supply.proofs.ByItem.{places-as-item, first-place, price-most, gone-least, sound-over-places}
 use Rattle.supply.proofs.Lending.{lent-served, roomy-decides}
 use Rattle.auction.specs.ReadOut.{ReadOutcome, readOutOf, readOutTold}
 use Rattle.auction.specs.Demand2.{Reads}
 use Rattle.auction.proofs.CallVerdicts.{read-out-written}
 use Rattle.auction.proofs.ReadOuts.{read-out-demand-2}
-use Rattle.auction.proofs.Histories.{history-demand-2}
 use Rattle.hungarian.specs.declared.exact.Greatest.{Greatest}
 use Rattle.hungarian.specs.Exact.{Shows}
 use Rattle.hungarian.specs.Demand3.{ShowsBest}
@@ -42,7 +41,7 @@ use Rattle.certificate.specs.declared.Totals.{Totals}
 use Rattle.certificate.specs.Check.{totals}
 use Rattle.certificate.proofs.Accepted.{totals-accepted, accepted-totals}
 use Rattle.guarantees.specs.Checks.{cut, ExactAccepted, EqualTotalsBest, ReadOutAccepted}
-use Rattle.guarantees.proofs.Modest.{Modest, reached-modest}
+use Rattle.guarantees.proofs.Modest.{Modest, sound-modest}
 use Rattle.guarantees.proofs.Bounds.{price-below, gain-below, cut-cell}
 
 -- Of an equal pair no price is above the greatest weight: spread over places it is equal too, and so tight
@@ -121,7 +120,7 @@ equal-totals-best b l weight sum′ e =
     (λ h. best .0 (sym w ∙ h ∙ s ∙ x), λ h. w ∙ best .1 h ∙ sym x ∙ sym s)
 
 pub read-out-accepted : ReadOutAccepted
-read-out-accepted b e n l t room =
+read-out-accepted b l s room =
     record {
       sum = totalWith (b .market .arrived) (b .items .count) (placesAt b) (cells (after .prices)) (cells (after .gains));
       accepted = accepted-totals b (cut b after) (b .market .slack .p) (b .market .slack .q)
@@ -134,9 +133,9 @@ read-out-accepted b e n l t room =
               gains = length-take-le (b .market .arrived) (after .gains) (omega (arith, reads .gains-length, room .gains));
             };
             matches = plan-as plan (over .plans);
-            prices = λ k h. omega (arith, prices k h, price-most b s k h (startIn (b .items) k) (first-place b k s h), m .prices (startIn (b .items) k));
+            prices = λ k h. omega (arith, prices k h, price-most b s k h (startIn (b .items) k) (first-place b k s h), m .prices (startIn (b .items) k) (places-as-item b k (startIn (b .items) k) s h (first-place b k s h) .below));
             withdrawn = λ k h gone. prices k h ∙ gone-least b s k h gone;
-            gains = λ i h. omega (arith, gains i h, m .gains i);
+            gains = λ i h. omega (arith, gains i h, m .gains i h);
             covers = covers-as _ _ (live b) (b .market .slack .q - b .market .slack .p) (priceAt b) _ (gainAt b) _ prices gains (least-prices-cover _ _ (placesAt b) (live b) _ (place.priceAt (auctionOf b)) (gainAt b) (over .some) (over .covers));
           })
           ∙ ap₂ totals (weight-as _ (live b) (matchingOf b) _ plan)
@@ -145,14 +144,11 @@ read-out-accepted b e n l t room =
       whole = λ ones. total-of-ones (b .market .arrived) (b .items .count) (placesAt b) (cells (after .prices)) (cells (after .gains)) ones ∙ reads .whole ones ∙ ap (λ x. (b .market .slack .q + b .market .slack .p) * x) weighs;
     }
   where
-    s : Sound b
-    s = history-demand-2 b e n t .sound
-
     over : OverPlaces b
     over = sound-over-places b s
 
     m : Modest (auctionOf b)
-    m = reached-modest t
+    m = sound-modest (auctionOf b) (s .auction)
 
     after : Lists
     after = readOutOf b l .lists

@@ -11,7 +11,9 @@ use Rattle.places.proofs.ShareWith.{share-with}
 use Rattle.places.proofs.GreatestWeightWith.{greatest-weight-with}
 use Rattle.supply.proofs.SoundLaw.{sound-decides}
 use Rattle.supply.proofs.ByItem.{places-as-item, sound-over-places, ones-as-auction}
-use Rattle.bidding.proofs.Choices.{best-is-chosen, chosen-once, ties-by-weight}
+use Rattle.bidding.proofs.Choices.{best-is-chosen, chosen-once, second-once, second-within, ties-by-weight}
+use Rattle.bidding.proofs.Bids.{pairs-whole, rule-admissible}
+use Rattle.bidding.proofs.Potentials.{potential-within}
 use Rattle.bidding.proofs.Chains.{chain-once}
 use Rattle.bidding.proofs.Rolls.{displaced-in-order, order-once}
 use Rattle.bidding.proofs.AboveFloors.{open-above-floor}
@@ -43,7 +45,7 @@ use Rattle.page.proofs.WriteLaws.{write-demand-1}
 use Rattle.page.proofs.ReadLaws.{read-demand-1}
 use Rattle.page.proofs.Demand1.{page-orders}
 use Rattle.page.proofs.Laws.{writes-said, reads-said, reads-back}
-use Rattle.guarantees.specs.Guarantees.{TableFirst, QuickBids, EqualPairs, KitchenPage, SteamLine, SideBySide, BidAsSlides, MorePlaces, Guarantees}
+use Rattle.guarantees.specs.Guarantees.{TableFirst, QuickBids, EqualPairs, KitchenPage, SteamLine, SideBySide, BidAsSlides, MorePlaces, BiggerBid, Guarantees}
 use Rattle.guarantees.proofs.Checks.{exact-accepted, equal-totals-best, read-out-accepted}
 use Rattle.guarantees.proofs.BesideExact.{no-difference-best}
 use Rattle.guarantees.proofs.BySlides.{lines-by-slides, replay-by-slides}
@@ -198,5 +200,8 @@ more-places =
       lines = lines-open;
     }
 
+bigger-bid : BiggerBid
+bigger-bid = record { second = second-once; within = second-within; pairs = pairs-whole; admissible = rule-admissible; bound = potential-within }
+
 pub guarantees : Guarantees
-guarantees = record { demand1 = demand-1; demand2 = demand-2; demand3 = demand-3; page = kitchen-page; steam = steam-line; sides = side-by-side; slides = bid-as-slides; places = more-places }
+guarantees = record { demand1 = demand-1; demand2 = demand-2; demand3 = demand-3; page = kitchen-page; steam = steam-line; sides = side-by-side; slides = bid-as-slides; places = more-places; bigger = bigger-bid }

@@ -12,7 +12,6 @@ use Rattle.supply.specs.Sound.{Sound}
 use Rattle.supply.specs.Lent.{Roomy}
 use Rattle.board.specs.Lent.{Lists, lists}
 use Rattle.auction.specs.ReadOut.{readOutOf}
-use Rattle.auction.specs.Histories.{Reached}
 use Rattle.hungarian.specs.declared.exact.Greatest.{Greatest}
 use Rattle.hungarian.specs.Exact.{greatestOn, ExactOutcome}
 use Rattle.certificate.specs.Check.{checkOf, totals, checkedTold}
@@ -42,6 +41,6 @@ pub record ChecksOut (b : Board) (l : Lists) : Type 0 where
   pub within : sum ≤ (b .market .slack .q + b .market .slack .p) * matchingWeight b
   pub whole : Ones (b .items .count) (placesAt b) → sum ≡ (b .market .slack .q + b .market .slack .p) * matchingWeight b
 
--- On a board that a history reaches they are accepted
+-- On every sound board they are accepted: no price and no gain is above 2,000,000,000, the limit since R-7
 abbrev pub ReadOutAccepted : Type 0
-ReadOutAccepted = (b : Board) (e n : ℕ) (l : Lists) → Reached b e n → Roomy b l → ChecksOut b l
+ReadOutAccepted = (b : Board) (l : Lists) → Sound b → Roomy b l → ChecksOut b l

@@ -13,7 +13,7 @@ use Rattle.places.specs.GreatestWeightWith.{GreatestWeightWith}
 use Rattle.supply.specs.Laws.{PlacesAsItem, SoundOverPlaces, OnesAsAuction}
 use Rattle.refusals.specs.Codes.{CodesApart}
 use Rattle.refusals.specs.Told.{ToldApart}
-use Rattle.bidding.specs.RuleLaws.{BestIsChosen, ChosenOnce, TiesByWeight, ChainOnce}
+use Rattle.bidding.specs.RuleLaws.{BestIsChosen, ChosenOnce, SecondOnce, SecondWithin, TiesByWeight, PairsWhole, RuleAdmissible, PotentialWithin, ChainOnce}
 use Rattle.bidding.specs.SlideLaws.{TestMeans, PickMeans, TestThenPick, OpenAboveFloor, PlainSteps, UntilNow, BidBySlides, StepsInTurn, ChainBySlides}
 use Rattle.bidding.specs.WithdrawalLaws.{AllGo, DisplacedInOrder, OrderOnce, ChainsOnce, WithdrawnIsChains, ListOfOne}
 use Rattle.auction.specs.OneItem.{OneAsBefore, NoneChanged}
@@ -105,7 +105,7 @@ pub record QuickBids : Type 0 where
   pub before : RefusedBefore
   -- So the printed figures hold
   pub printed : PrintedFigures
-  -- The check accepts what is read out
+  -- The check accepts what is read out, on every sound board
   pub accepted : ReadOutAccepted
 
 -- Demand 3
@@ -193,7 +193,7 @@ pub record BidAsSlides : Type 0 where
   pub floors : OpenAboveFloor
   -- The last two, on the lists of plain numbers that the code has, leave the board that they leave by definition
   pub plain : PlainSteps
-  -- The bid as defined until now is that of which chains are made
+  -- The bid as the rule defines it, since R-7 the bigger one, is that of which chains are made
   pub until-now : UntilNow
   -- "These four steps in turn .. must be shown equal to the bid as defined until now": on every board, of every bidder, whatever bids follow; so every
   -- chain is the same
@@ -240,6 +240,20 @@ pub record MorePlaces : Type 0 where
   -- "After `K`, lines `P`, kettle, places may follow": the board that they open is the one that the call opens with those counts
   pub lines : LinesOpen
 
+-- R-7, the bigger bid
+pub record BiggerBid : Type 0 where
+  -- "the leaf that finds the best place also returns the greatest utility of any other open place of that batch, 0 if none": the answer is right, there is one
+  -- right answer, and it is no greater than the best's utility. (That the leaf answers it is `taken` of demand 2.)
+  pub second : SecondOnce
+  pub within : SecondWithin
+  -- "placed pairs still sum to (q + p) × w"
+  pub pairs : PairsWhole
+  -- "The gain becomes that second utility, and the price rises by the lead plus p × w": such a bid is an admissible one, and admissible bids keep the board
+  -- sound and raise the potential (bidding RuleLaws); the potential of no board is above "the entries ever accepted times the whole part of (q - 1)/p": "the
+  -- bid bound must not loosen" (`histories` of demand 2, as it was)
+  pub admissible : RuleAdmissible
+  pub bound : PotentialWithin
+
 pub record Guarantees : Type 0 where
   pub demand1 : TableFirst
   pub demand2 : QuickBids
@@ -249,3 +263,4 @@ pub record Guarantees : Type 0 where
   pub sides : SideBySide
   pub slides : BidAsSlides
   pub places : MorePlaces
+  pub bigger : BiggerBid

@@ -37,11 +37,13 @@ pub struct Auction {
     edges: [[Edge; PLACES]; BIDDERS],
 }
 
-/// An open edge that a bidder may take, at a place of its item.
+/// The open edge that a bidder takes, at a place of its item.
 struct Choice {
     place: usize,
     weight: u64,
     utility: u64,
+    /// The greatest utility of its other open places, 0 for none.
+    second: u64,
 }
 
 impl Auction {
@@ -194,8 +196,8 @@ impl Auction {
         let mut bids = 0;
         while let Some(choice) = self.best_open(bidder) {
             bids += 1;
-            self.gain[bidder] = choice.utility;
-            self.price[choice.place] += self.p * choice.weight;
+            self.gain[bidder] = choice.second;
+            self.price[choice.place] += choice.utility - choice.second + self.p * choice.weight;
             let displaced = std::mem::replace(&mut self.holder[choice.place], bidder as u8);
             if displaced == FREE {
                 break;
@@ -209,8 +211,7 @@ impl Auction {
     /// Greatest utility, then largest weight, then lowest place: edges stand in
     /// rising order of places, so the first of equal ones stays.
     fn best_open(&self, bidder: usize) -> Option<Choice> {
-        let mut best: Option<Choice> = None;
-        let (mut greatest, mut heaviest) = (0, 0);
+        let mut best = Choice { place: 0, weight: 0, utility: 0, second: 0 };
         for edge in self.edges_of(bidder) {
             let (place, weight) = (edge.place as usize, edge.weight as u64);
             let price = self.price[place];
@@ -218,13 +219,16 @@ impl Auction {
                 continue;
             }
             let utility = self.q * weight - price;
-            if utility < greatest || utility == greatest && weight <= heaviest {
+            if utility < best.second {
                 continue;
             }
-            (greatest, heaviest) = (utility, weight);
-            best = Some(Choice { place, weight, utility });
+            if utility < best.utility || utility == best.utility && weight <= best.weight {
+                best.second = utility;
+            } else {
+                best = Choice { place, weight, utility, second: best.utility };
+            }
         }
-        best
+        (best.weight > 0).then_some(best)
     }
 
     pub fn edges_of(&self, bidder: usize) -> &[Edge] {

@@ -218,6 +218,17 @@ pub fn may_have(count: u64) -> bool {
     (1..=MAX_COUNT).contains(&count)
 }
 
+/// A bid for a place, along an edge of this weight.
+struct Bid {
+    place: Place,
+    weight: u64,
+    /// The utility of that place.
+    best: u64,
+    /// "the greatest utility of any other open place of that batch, 0 if none" (document
+    /// 02, R-7).
+    second: u64,
+}
+
 /// The rule.
 impl Auction {
     /// The chain of bids that starts with this bidder; its length.
@@ -225,34 +236,46 @@ impl Auction {
         let mut bids = 0;
         let mut next = Some(bidder);
         while let Some(bidder) = next {
-            let Some((weight, place)) = self.best_open(bidder) else {
+            let Some(bid) = self.best_open(bidder) else {
                 break;
             };
-            next = self.holder(place);
+            next = self.holder(bid.place);
             if let Some(displaced) = next {
                 self.displace(displaced);
             }
-            self.take(bidder, weight, place);
+            self.take(bidder, bid);
             bids += 1;
         }
         bids
     }
 
-    /// The open live edge of greatest utility, its weight and a place of its item. "Of two
-    /// kettles with equal utility a batch takes the one with the larger worth, and only
-    /// then the lower number" (document 02, R-1); "a batch compares places, and the lower
-    /// place breaks a last tie" (R-6).
-    fn best_open(&self, bidder: usize) -> Option<(u64, Place)> {
+    /// The open place of greatest utility. "Of two kettles with equal utility a batch takes
+    /// the one with the larger worth, and only then the lower number" (document 02, R-1); "a
+    /// batch compares places, and the lower place breaks a last tie" (R-6).
+    fn best_open(&self, bidder: usize) -> Option<Bid> {
+        let open = self.open_offers(bidder);
+        let utility = |&(weight, place): &(u64, Place)| self.utility(weight, place);
+        let taken = open.iter().max_by_key(|it| (utility(it), it.0, Reverse(it.1)))?;
+        let others = open.iter().filter(|other| other.1 != taken.1);
+        let second = others.map(utility).max().unwrap_or(0);
+        Some(Bid { place: taken.1, weight: taken.0, best: utility(taken), second })
+    }
+
+    /// Each place at which a live edge of this bidder is open, with the edge's weight.
+    fn open_offers(&self, bidder: usize) -> Vec<(u64, Place)> {
         let live = self.bidders[bidder].edges.iter().filter(|&&e| self.is_live(e));
         live.flat_map(|e| self.places(e.item).map(|place| (e.weight, place)))
             .filter(|&(weight, place)| self.is_open(weight, place))
-            .max_by_key(|&(weight, place)| (self.utility(weight, place), weight, Reverse(place)))
+            .collect()
     }
 
-    fn take(&mut self, bidder: usize, weight: u64, place: Place) {
-        self.bidders[bidder].gain = self.utility(weight, place);
-        self.bidders[bidder].held = Some(place);
-        *self.price_mut(place) += self.slack.p * weight;
+    /// "The gain becomes that second utility, and the price rises by the lead plus p × w"
+    /// (document 02, R-7).
+    fn take(&mut self, bidder: usize, bid: Bid) {
+        let lead = bid.best - bid.second;
+        self.bidders[bidder].gain = bid.second;
+        self.bidders[bidder].held = Some(bid.place);
+        *self.price_mut(bid.place) += lead + self.slack.p * bid.weight;
     }
 
     fn displace(&mut self, bidder: usize) {

@@ -4,7 +4,8 @@ use super::auction::*;
 use super::matching::{admit, weight};
 use super::refusal::*;
 
-pub const MAX_PRICE: u64 = 1_000_000_000;
+/// "Refusal 11's limit of 1,000,000,000 becomes 2,000,000,000" (document 02, R-7).
+pub const MAX_PRICE: u64 = 2_000_000_000;
 
 #[derive(Clone, Copy, Debug, PartialEq, Eq)]
 pub struct Totals {

@@ -1,7 +1,7 @@
 //! The proved calls beside the slides: a call on both, and what its bids met.
 
 use super::fraction::Fraction;
-use super::{Offer, Place, Slides};
+use super::{Offer, Picked, Place, Slides};
 use crate::both::{equal, Same};
 use crate::ffi::{self, Told};
 use crate::gen::history::Call;
@@ -25,13 +25,20 @@ pub struct Met {
     pub lower: u64,
     pub places: u64,
     /// Turns at which an edge's utility was ε times its weight; of these, turns at which
-    /// it would be picked if that were open.
+    /// it would be picked if that were open, and at which it would be the second.
     pub bar: u64,
     pub decides: u64,
+    pub seconds: u64,
     /// Bids at which an edge that was not open had a greater utility than the one picked.
     pub closed: u64,
     /// Bids at a price that was no whole penny.
     pub parts: u64,
+    /// Bids without another open place; those at which the second utility was that of another
+    /// place of the item picked, and of no other item; those at which an edge that was not
+    /// open had a greater one.
+    pub alone: u64,
+    pub own: u64,
+    pub shut: u64,
 }
 
 impl Met {
@@ -41,9 +48,14 @@ impl Met {
         let reached: Vec<Offer> = all.iter().copied().filter(|uv| uv.utility >= bar(uv)).collect();
         let picked = Slides::pick(&open);
         self.bar += reached.iter().any(|uv| uv.utility == bar(uv)) as u64;
-        self.decides += (Slides::pick(&reached) != picked) as u64;
+        let would = Slides::pick(&reached);
+        self.decides += (would.map(|it| it.offer) != picked.map(|it| it.offer)) as u64;
+        self.seconds += (would.map(|it| it.second) != picked.map(|it| it.second)) as u64;
         match picked {
-            Some(picked) => self.note(slides, &all, &open, picked),
+            Some(Picked { offer, second }) => {
+                self.note(slides, &all, &open, offer);
+                self.note_second(&all, &open, offer, second);
+            }
             None => self.ends += 1,
         }
     }
@@ -60,6 +72,15 @@ impl Met {
         self.lower += equal.iter().any(|uv| uv.place < picked.place) as u64;
         self.closed += all.iter().any(|uv| uv.utility > picked.utility) as u64;
         self.parts += slides.prices[&picked.place].to_whole().is_none() as u64;
+    }
+
+    fn note_second(&mut self, all: &[Offer], open: &[Offer], picked: Offer, second: Fraction) {
+        let mut others = open.iter().filter(|uv| uv.place.0 != picked.place.0);
+        let own = others.all(|uv| uv.utility < second);
+        let rest = |uv: &&Offer| uv.place != picked.place;
+        self.alone += (open.len() == 1) as u64;
+        self.own += (own && open.len() > 1) as u64;
+        self.shut += all.iter().filter(rest).any(|uv| uv.utility > second) as u64;
     }
 }
 

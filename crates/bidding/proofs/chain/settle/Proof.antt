@@ -10,7 +10,7 @@ use Rattle.board.specs.Cells.{auction}
 use Rattle.bidding.specs.declared.rule.BestEdge.the-variants.{At}
 use Rattle.bidding.specs.Rule.{bestFor, fuelOf, settleOf}
 use Rattle.bidding.proofs.Turns.{going-starts, going-ends, counts, less}
-use Rattle.bidding.proofs.Running.{board, Running, prices-size, gains-size, prices-small, row-size, tested-kept, best-is, next-ends, next-runs, prices-kept, gains-kept, item-small, weight-small, held-small, item-price}
+use Rattle.bidding.proofs.Running.{board, Running, prices-size, gains-size, prices-small, row-size, tested-kept, offered, best-is, next-ends, next-runs, prices-kept, gains-kept, item-small, weight-small, held-small, item-price, second-small, lead-small}
 use Rattle.bidding.proofs.chain.settle.Statement.{statement}
 use Rattle.bidding.proofs.chain.settle.Tie as tie
 use Rattle.bidding.proofs.book.gains_of.Reads as gains-of-reads
@@ -56,7 +56,7 @@ abbrev here : tie.At-loop Inv-loop μ-loop → Auction
 here c = board (start (c .before) .args .market) (start (c .before) .args .weights .now) (c .loop .prices) (c .loop .holders) (c .loop .gains)
 
 abbrev priced : tie.After-raise Inv-loop μ-loop → tie.After-known-told Inv-loop μ-loop
-priced c = c .before .before .before
+priced c = c .before .before .before .before .before
 
 abbrev raised : tie.After-hand-over Inv-loop μ-loop → tie.After-raise Inv-loop μ-loop
 raised c = c .before .before .before
@@ -71,7 +71,7 @@ chosen c = best-is (head (tested c) .loop .inv) (tested c .test-open .ensures) _
 best : (c : tie.After-known-told Inv-loop μ-loop) →
     let at = head (tested (picked c)) in
     let e = c .before .best .given .0 in
-    bestFor (here at) (at .loop .next) ≡ At (e .0) (e .1 .0) (e .1 .1 .0)
+    bestFor (here at) (at .loop .next) ≡ At (e .0) (e .1 .0) (e .1 .1 .0) (e .1 .1 .1 .0)
 best c = chosen (picked c) ∙ c .before .best .given .1
 
 -- ---- The needs
@@ -119,7 +119,7 @@ pick-requires : tie.Need-pick-requires Inv-loop μ-loop
 pick-requires c κs =
     let r = head (c .before .before .before) .loop .inv in
     let s = r .going .ready .sound in
-    (s .items .1, s .slack .high, prices-small r)
+    (s .items .1, s .slack .high, prices-small r, offered r (c .before .before .before .test-open .ensures))
 
 enum-known-best : tie.Need-enum-known-best Inv-loop μ-loop
 enum-known-best c = search needs
@@ -137,12 +137,15 @@ returns c =
     rw (c .state-of .ensures) (going-ends (at .loop .inv .going) (chosen p ∙ c .before .enum-told .given .1)
     ∙ ap (λ b. settleOf (fuelOf b) b (start (at .before) .args .bidder) 0) (first-is (at .before)))
 
+sub-t45 : tie.Need-sub-t45 Inv-loop μ-loop
+sub-t45 c = let d = c .before .before in second-small (head (tested (picked d)) .loop .inv) (best d)
+
 raise-requires : tie.Need-raise-requires Inv-loop μ-loop
 raise-requires c κs =
-    let d = c .before .before in
+    let d = c .before .before .before .before in
     let r = head (tested (picked d)) .loop .inv in
     let s = r .going .ready .sound .slack in
-    (item-small r (best d), s .below, s .high, weight-small r (best d), item-price r (best d))
+    (item-small r (best d), s .below, s .high, weight-small r (best d), lead-small r (best d), item-price r (best d))
 
 hand-over-requires : tie.Need-hand-over-requires Inv-loop μ-loop
 hand-over-requires c κs =
@@ -210,6 +213,7 @@ settle-spec =
     enum-told
     state-of-requires
     returns
+    sub-t45
     raise-requires
     hand-over-requires
     add-bids

@@ -4,10 +4,10 @@ use Prim.Native.Nat.{_+_, _*_, _<_}
 use native.Mathlib.Omega.{arith}
 use borrow.Author.Needs.{needs}
 use borrow.Author.Tests.{not-true, not-false, ltb-true, ltb-false}
-use Rattle.bidding.proofs.Offers.{take-below, take-kept, take-new, leads-new}
+use Rattle.bidding.proofs.Offers.{take-below, take-above, above-large, above-small}
 use Rattle.bidding.proofs.rule.offer.Statement.{statement}
 use Rattle.bidding.proofs.rule.offer.Tie as tie
-use Rattle.bidding.proofs.rule.goes_before.Reads as goes-before-reads
+use Rattle.bidding.proofs.rule.overtaken.Reads as overtaken-reads
 use Rattle.board.proofs.units.Slack.exceeds.Reads as exceeds-reads
 use Rattle.board.proofs.units.Slack.utility.Reads as utility-reads
 
@@ -16,7 +16,7 @@ over : (c : tie.Else1) → let s = c .before .before .before .before in s .args 
 over c = ltb-true _ _ (sym (c .before .exceeds .ensures) ∙ not-false _ (c .if1 .left))
 
 add-t8 : tie.Need-add-t8
-add-t8 c = search needs
+add-t8 c = let p = c .before .before .pre in record { fits = omega (arith, p .2, p .4 .under, p .4 .fits) }
 
 exceeds-requires : tie.Need-exceeds-requires
 exceeds-requires c κs = search needs
@@ -24,34 +24,26 @@ exceeds-requires c κs = search needs
 returns : tie.Need-returns
 returns c =
     let s = c .before .before .before .before in
-    let h = s .pre .3 in
-    (h, take-below _ _ _ _ _ _ _ h (ltb-false _ _ (sym (c .before .exceeds .ensures) ∙ not-true _ (c .if1 .taken))))
+    let h = s .pre .4 in
+    (h, take-below _ _ _ _ _ _ _ _ h (s .pre .3) (ltb-false _ _ (sym (c .before .exceeds .ensures) ∙ not-true _ (c .if1 .taken))))
 
 utility-requires : tie.Need-utility-requires
 utility-requires c κs =
     let s = c .before .before .before .before in
     (s .pre .0, s .pre .1, omega (arith, over c))
 
-goes-before-requires : tie.Need-goes-before-requires
-goes-before-requires c κs = search needs
-
-sub-t12 : tie.Need-sub-t12
-sub-t12 c = let u = c .before .before .before in omega (arith, over (u .before), u .utility .ensures)
+overtaken-requires : tie.Need-overtaken-requires
+overtaken-requires c κs =
+    let s = c .before .before .before .before .before in
+    let l = over (c .before) in
+    let e = c .utility .ensures in
+    let (w, u) = above-large _ _ _ _ _ (s .pre .3) l e in
+    (w, u, above-small _ _ _ (s .args .leader .bar .0) _ (s .pre .0) (s .pre .1) e, omega (arith, l, e), s .pre .4)
 
 returns-2 : tie.Need-returns-2
 returns-2 c =
-    let u = c .before .before .before in
-    let s = u .before .before .before .before .before in
-    let l = over (u .before) in (
-      leads-new _ (s .args .item) _ _ (s .args .leader .item) (s .args .leader .weight) _ l _ (u .utility .ensures) (s .pre .0) (s .pre .1),
-      take-new _ _ _ _ _ (s .args .leader .weight) _ l _ (u .utility .ensures) (sym (c .before .before .goes-before .ensures) ∙ c .before .if2 .taken),
-    )
-
-returns-3 : tie.Need-returns-3
-returns-3 c =
-    let u = c .before .before in
-    let s = u .before .before .before .before .before in
-    (s .pre .3, take-kept _ _ _ _ _ (s .args .leader .weight) _ (over (u .before)) _ (u .utility .ensures) (sym (c .before .goes-before .ensures) ∙ c .if2 .left))
+    let u = c .before in
+    (c .overtaken .ensures .0, c .overtaken .ensures .1 ∙ take-above _ _ _ _ _ _ _ (over (u .before)) (u .utility .ensures))
 
 pub offer-spec : {M : Type 1} → statement M
 offer-spec =
@@ -61,7 +53,5 @@ offer-spec =
     exceeds-requires
     returns
     utility-requires
-    goes-before-requires
-    sub-t12
-    returns-2
-    returns-3)
+    overtaken-requires
+    returns-2)

@@ -15,7 +15,7 @@ use Rattle.board.proofs.units.weight_in.Reads as weight-in-reads
 
 abbrev Inv-loop : tie.InvT-loop
 Inv-loop tested prices items slack leader₀ k₀ leader k =
-    (k ≤ items) × LeaderFits (leader .weight .0) (leader .bar .0) × (edgeOf (leader .item) (leader .weight) (leader .bar .0) ≡ pickOf (slack .q) (cells tested) (cells prices) k)
+    (k ≤ items) × LeaderFits (leader .weight .0) (leader .utility .0) (leader .bar .0) × (edgeOf (leader .item) (leader .weight) (leader .utility) (leader .bar .0) ≡ pickOf (slack .q) (cells tested) (cells prices) k)
 
 abbrev μ-loop : tie.MeasureT-loop
 μ-loop tested prices items slack leader₀ k₀ leader k = items - k
@@ -33,17 +33,18 @@ element-copy-out-weight-in c = search needs
 weight-in-requires : tie.Need-weight-in-requires Inv-loop μ-loop
 weight-in-requires c κs = search needs
 
-mul-t15 : tie.Need-mul-t15 Inv-loop μ-loop
-mul-t15 c = search needs
+mul-t16 : tie.Need-mul-t16 Inv-loop μ-loop
+mul-t16 c = search needs
 
-element-copy-out-t18 : tie.Need-element-copy-out-t18 Inv-loop μ-loop
-element-copy-out-t18 c = search needs
+element-copy-out-t19 : tie.Need-element-copy-out-t19 Inv-loop μ-loop
+element-copy-out-t19 c = search needs
 
 offer-requires : tie.Need-offer-requires Inv-loop μ-loop
 offer-requires c κs =
     let at = c .before .before .before in
     let s = at .before .before in
-    (s .pre .1, c .before .weight-in .ensures .1, s .pre .2 _ (at .loop-test .taken), at .before .loop .inv .1)
+    let near = at .loop-test .taken in
+    (s .pre .1, c .before .weight-in .ensures .1, s .pre .2 _ near, rw (c .before .weight-in .ensures .0) (s .pre .3 _ near), at .before .loop .inv .1)
 
 add-k : tie.Need-add-k Inv-loop μ-loop
 add-k c = search needs
@@ -57,7 +58,7 @@ loop-again c =
     (omega arith, c .offer .ensures .0, pick-next _ _ _ _ _ _ (at .loop .inv .2) (rw (c .before .before .weight-in .ensures .0) at (c .offer .ensures .1)))
 
 picked-requires : tie.Need-picked-requires Inv-loop μ-loop
-picked-requires c κs = c .before .loop .inv .1 .fits
+picked-requires c κs = let l = c .before .loop .inv .1 in omega (arith, l .under, l .fits)
 
 returns : tie.Need-returns Inv-loop μ-loop
 returns c =
@@ -74,8 +75,8 @@ pick-spec =
     mul-weight-in
     element-copy-out-weight-in
     weight-in-requires
-    mul-t15
-    element-copy-out-t18
+    mul-t16
+    element-copy-out-t19
     offer-requires
     add-k
     loop-less
