@@ -7,6 +7,7 @@ pub mod Frame
 pub mod Leaving
 pub mod Marks
 pub mod Matchings
+pub mod Modest
 pub mod Moving
 pub mod Offers
 pub mod Placed

@@ -24,7 +24,6 @@ use Rattle.board.specs.Limits.{maxItems, maxBidders, maxWeight, maxQ, wordLimit
 use Rattle.board.specs.Cells.{auction, priceAt, holderAt, holderOf, flagAt, rowIn}
 use Rattle.board.specs.Live.{live, liveIn}
 use Rattle.board.specs.Lent.{written}
-use Rattle.board.proofs.LiveLaws.{held-names}
 use Rattle.board.proofs.Written.{written-in, written-length}
 use Rattle.bidding.specs.Rule.{raisedTo, bestFor, afterChain, done, settleOf, fuelOf}
 use Rattle.bidding.specs.Waiting.{SoundBut}
@@ -36,7 +35,8 @@ use Rattle.bidding.proofs.Choices.{best-at}
 use Rattle.bidding.proofs.Frame.{open-edge, live-is}
 use Rattle.bidding.proofs.Units.{units-at, units-length, gains-length}
 use Rattle.bidding.proofs.Slides.{test-then-pick, pick-as, handed-free, handed-held, plain-steps}
-use Rattle.bidding.proofs.Turns.{Going, Found, found, live-small, turn-ends, turn-on, row-part, row-part-length}
+use Rattle.bidding.proofs.Modest.{price-modest}
+use Rattle.bidding.proofs.Turns.{Going, Found, found, turn-ends, turn-on, row-part, row-part-length}
 
 -- The board that plain numbers are
 abbrev pub board : Market → List ℕ → List ℕ → List ℕ → List ℕ → Auction
@@ -103,18 +103,6 @@ holder-small {b = b} s k l = go (holderAt b k) refl
     go zero e = omega arith
     go (suc i) e = omega (arith, s .holders k i l e .0, s .arrived)
 
--- A price
-price-small : {waits : ℕ → Type 0} {b : Auction} → SoundBut waits b → (k : ℕ) → k < b .market .items → priceAt b k ≤ maxQ * wordLimit
-price-small {b = b} s k l = go (holderAt b k) refl
-  where
-    go : (h : ℕ) → holderAt b k ≡ h → priceAt b k ≤ maxQ * wordLimit
-    go zero e = omega (arith, s .tight .unheld k l (λ i li em. omega (arith, e, held-names (b .state .holder) (b .market .items) i k em .1)))
-    go (suc i) e =
-        let h = s .holders k i l e in
-        let top : (b .market .slack .q + b .market .slack .p) * live b i k ≤ 2 * maxQ * maxWeight =
-        mul-le-mul {n₂ = 2 * maxQ} {m₂ = maxWeight} (omega (arith, s .slack .below, s .slack .high)) (live-small s i k (h .0) l) in
-        omega (arith, s .tight .placed i k (h .0) (h .1))
-
 -- ---- A turn of the loop
 
 -- The part of the weights that is lent as the bidder's row, and what step 1 says of it
@@ -137,7 +125,7 @@ module _ {b₀ : Auction} {i₀ : ℕ} {market : Market} {weights prices holders
   gains-size = sym (units-length gains) ∙ r .going .ready .sound .formed .gains
 
   pub prices-small : (k : ℕ) → k < market .items → cells prices k ≤ maxQ * wordLimit
-  prices-small k l = rw (← units-at prices k) (price-small (r .going .ready .sound) k l)
+  prices-small k l = omega (arith, units-at prices k, price-modest (r .going .ready .sound) k l)
 
   pub row-size : length (rowPart weights i) ≡ maxItems
   row-size = let s = r .going .ready in row-part-length weights i (omega (arith, s .bidder, s .sound .arrived)) (s .sound .formed .rows)

@@ -7,7 +7,7 @@ use lib.ListN.{take}
 use lib.Seq.{length-take-le}
 use Rattle.duality.specs.Lists.{cells}
 use Rattle.duality.specs.Matching.{weightOf}
-use Rattle.duality.specs.Cover.{Tight, total}
+use Rattle.duality.specs.Cover.{Tight}
 use Rattle.duality.proofs.Agree.{weight-as, covers-as}
 use Rattle.duality.proofs.ComplementarySlackness.{complementary-slackness}
 use Rattle.places.specs.Places.{placesTo, overPlaces, spreadWeights}
@@ -29,6 +29,9 @@ use Rattle.supply.specs.Sound.{Sound}
 use Rattle.supply.proofs.SoundLaw.{sound-decides}
 use Rattle.supply.proofs.ByItem.{places-as-item, first-place, price-most, gone-least, sound-over-places}
 use Rattle.supply.proofs.Lending.{lent-served, roomy-decides}
+use Rattle.bidding.specs.Waiting.{SoundBut, Nobody}
+use Rattle.bidding.proofs.Waiting.{sound-is-settled}
+use Rattle.bidding.proofs.Modest.{price-modest, gain-modest}
 use Rattle.auction.specs.ReadOut.{ReadOutcome, readOutOf, readOutTold}
 use Rattle.auction.specs.Demand2.{Reads}
 use Rattle.auction.proofs.CallVerdicts.{read-out-written}
@@ -41,7 +44,6 @@ use Rattle.certificate.specs.declared.Totals.{Totals}
 use Rattle.certificate.specs.Check.{totals}
 use Rattle.certificate.proofs.Accepted.{totals-accepted, accepted-totals}
 use Rattle.guarantees.specs.Checks.{cut, ExactAccepted, EqualTotalsBest, ReadOutAccepted}
-use Rattle.guarantees.proofs.Modest.{Modest, sound-modest}
 use Rattle.guarantees.proofs.Bounds.{price-below, gain-below, cut-cell}
 
 -- Of an equal pair no price is above the greatest weight: spread over places it is equal too, and so tight
@@ -133,9 +135,9 @@ read-out-accepted b l s room =
               gains = length-take-le (b .market .arrived) (after .gains) (omega (arith, reads .gains-length, room .gains));
             };
             matches = plan-as plan (over .plans);
-            prices = λ k h. omega (arith, prices k h, price-most b s k h (startIn (b .items) k) (first-place b k s h), m .prices (startIn (b .items) k) (places-as-item b k (startIn (b .items) k) s h (first-place b k s h) .below));
+            prices = λ k h. omega (arith, prices k h, price-most b s k h (startIn (b .items) k) (first-place b k s h), price-modest settled (startIn (b .items) k) (places-as-item b k (startIn (b .items) k) s h (first-place b k s h) .below));
             withdrawn = λ k h gone. prices k h ∙ gone-least b s k h gone;
-            gains = λ i h. omega (arith, gains i h, m .gains i h);
+            gains = λ i h. omega (arith, gains i h, gain-modest settled i h);
             covers = covers-as _ _ (live b) (b .market .slack .q - b .market .slack .p) (priceAt b) _ (gainAt b) _ prices gains (least-prices-cover _ _ (placesAt b) (live b) _ (place.priceAt (auctionOf b)) (gainAt b) (over .some) (over .covers));
           })
           ∙ ap₂ totals (weight-as _ (live b) (matchingOf b) _ plan)
@@ -147,8 +149,8 @@ read-out-accepted b l s room =
     over : OverPlaces b
     over = sound-over-places b s
 
-    m : Modest (auctionOf b)
-    m = sound-modest (auctionOf b) (s .auction)
+    settled : SoundBut Nobody (auctionOf b)
+    settled = sound-is-settled (auctionOf b) .0 (s .auction)
 
     after : Lists
     after = readOutOf b l .lists

@@ -1,5 +1,4 @@
--- The proof of the page, from the crates below: prices that histories reach, what the check accepts, texts by the slides, and the page itself.
-pub mod Modest
+-- The proof of the page, from the crates below: what the check accepts, texts by the slides, and the page itself.
 pub mod Bounds
 pub mod Checks
 pub mod BesideExact
