@@ -1,5 +1,5 @@
 //! Makers of cases: counts of places, histories, texts, sound and spoilt records, claims,
-//! pages, plans.
+//! pages, plans, sheets of small weights.
 
 pub mod board;
 pub mod claim;
@@ -10,4 +10,5 @@ pub mod page;
 pub mod places;
 pub mod plan;
 pub mod sheet;
+pub mod small;
 pub mod text;

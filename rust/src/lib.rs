@@ -1,4 +1,4 @@
-//! A second implementation of document 01 and of of document 02, for
+//! A second implementation of document 01 and of of document 02, for
 //! comparison with the proved one.
 //!
 //! `model` says what every call answers, simply and slowly; `page` writes and

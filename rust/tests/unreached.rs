@@ -11,11 +11,6 @@ use noughtelm_tests::model::refusal::*;
 use noughtelm_tests::model::sound::{from_record, Record};
 use noughtelm_tests::rng::Rng;
 
-/// In every history the price of a held place is at least p times the weight.
-fn is_unreached(r: &Record) -> bool {
-    r.pairs().any(|(bidder, place)| r.price[place] < r.slack.p * r.rows[bidder][place] as u64)
-}
-
 fn live_arrival(rng: &mut Rng, r: &Record) -> Vec<Edge> {
     let density = rng.range(0, 3);
     let mut edges = Vec::new();
@@ -77,7 +72,7 @@ fn try_boards(seeds: std::ops::Range<u64>) -> (Tally, u64, u64) {
     for seed in seeds {
         let rng = &mut Rng::new(seed);
         let record = board::sound(rng);
-        unreached += is_unreached(&record) as u64;
+        unreached += board::is_unreached(&record) as u64;
         high += record.price.iter().any(|&y| y > 1_000_000_000) as u64;
         let mut both = Both::on(record.clone(), &mut seen);
         let found = look(&mut both, rng).and_then(|_| change(&mut both, rng));

@@ -45,10 +45,12 @@ use Rattle.page.proofs.WriteLaws.{write-demand-1}
 use Rattle.page.proofs.ReadLaws.{read-demand-1}
 use Rattle.page.proofs.Demand1.{page-orders}
 use Rattle.page.proofs.Laws.{writes-said, reads-said, reads-back}
-use Rattle.guarantees.specs.Guarantees.{TableFirst, QuickBids, EqualPairs, KitchenPage, SteamLine, SideBySide, BidAsSlides, MorePlaces, BiggerBid, Guarantees}
+use Rattle.guarantees.specs.Guarantees.{TableFirst, QuickBids, EqualPairs, KitchenPage, SteamLine, SideBySide, BidAsSlides, MorePlaces, BiggerBid, SmallSheets, Guarantees}
 use Rattle.guarantees.proofs.Checks.{exact-accepted, equal-totals-best, read-out-accepted}
 use Rattle.guarantees.proofs.BesideExact.{no-difference-best}
 use Rattle.guarantees.proofs.BySlides.{lines-by-slides, replay-by-slides}
+use Rattle.guarantees.proofs.Small.{small-is-exact, small-printed, small-by-slack}
+use Rattle.guarantees.proofs.Sharp.{small-is-sharp}
 
 demand-1 : TableFirst
 demand-1 =
@@ -203,5 +205,20 @@ more-places =
 bigger-bid : BiggerBid
 bigger-bid = record { second = second-once; within = second-within; pairs = pairs-whole; admissible = rule-admissible; bound = potential-within }
 
+small-sheets : SmallSheets
+small-sheets = record { exact = small-is-exact; printed = small-printed; slack = small-by-slack; sharp = small-is-sharp }
+
 pub guarantees : Guarantees
-guarantees = record { demand1 = demand-1; demand2 = demand-2; demand3 = demand-3; page = kitchen-page; steam = steam-line; sides = side-by-side; slides = bid-as-slides; places = more-places; bigger = bigger-bid }
+guarantees =
+    record {
+      demand1 = demand-1;
+      demand2 = demand-2;
+      demand3 = demand-3;
+      page = kitchen-page;
+      steam = steam-line;
+      sides = side-by-side;
+      slides = bid-as-slides;
+      places = more-places;
+      bigger = bigger-bid;
+      small = small-sheets;
+    }

@@ -39,6 +39,7 @@ use Rattle.page.specs.Laws.{BoardIsPage, BoardsFit, WeightsAdd, WritesSaid, Rea
 use Rattle.guarantees.specs.Checks.{ExactAccepted, EqualTotalsBest, ReadOutAccepted}
 use Rattle.guarantees.specs.BesideExact.{NoDifferenceBest}
 use Rattle.guarantees.specs.BySlides.{LinesBySlides, ReplayBySlides}
+use Rattle.guarantees.specs.Small.{SmallIsExact, SmallBySlack, SmallPrinted, SmallIsSharp}
 
 -- Demand 1
 pub record TableFirst : Type 0 where
@@ -254,6 +255,17 @@ pub record BiggerBid : Type 0 where
   pub admissible : RuleAdmissible
   pub bound : PotentialWithin
 
+-- R-8, small sheets come out exact
+pub record SmallSheets : Type 0 where
+  -- "Where 2 × p times the greatest worth of a plan on the live sheet, line `E`, is below q + p, the quick plan must be shown to have greatest worth": on
+  -- every sound board, places and withdrawn kettles and all; and of every text that is carried out, `T` has the worth of `E`
+  pub exact : SmallIsExact
+  pub printed : SmallPrinted
+  -- Which slack is small enough for a sheet in pounds
+  pub slack : SmallBySlack
+  -- "is below": where the two are equal it can fail
+  pub sharp : SmallIsSharp
+
 pub record Guarantees : Type 0 where
   pub demand1 : TableFirst
   pub demand2 : QuickBids
@@ -264,3 +276,4 @@ pub record Guarantees : Type 0 where
   pub slides : BidAsSlides
   pub places : MorePlaces
   pub bigger : BiggerBid
+  pub small : SmallSheets

@@ -28,15 +28,27 @@ pub fn sound_places(rng: &mut Rng) -> Record {
     records.into_iter().find(|r| r.places > r.items).expect("there are such records")
 }
 
+/// In every history the price of a held place is at least p times the weight.
+pub fn is_unreached(r: &Record) -> bool {
+    r.pairs().any(|(bidder, place)| r.price[place] < r.slack.p * r.rows[bidder][place] as u64)
+}
+
 /// A record of so many bidders and of items with so many places, sound where these counts
 /// are within limits.
 pub fn sound_of(rng: &mut Rng, counts: &[u64], arrived: u64) -> Record {
-    let mut r = Record::of_counts(counts);
-    r.arrived = arrived;
     let q = rng.pick(&[2, 10, 100, 999, 1_000, 1_000]);
     let middle = rng.range(1, q - 1);
-    r.slack = Slack { p: rng.pick(&[1, middle, q - 1]), q };
-    fill_edges(rng, &mut r);
+    let slack = Slack { p: rng.pick(&[1, middle, q - 1]), q };
+    let most = rng.pick(&[3, 100, 9_999, MAX_WEIGHT, MAX_WEIGHT]);
+    sound_at(rng, counts, arrived, slack, most)
+}
+
+/// The same at this slack, with weights up to `most`.
+pub fn sound_at(rng: &mut Rng, counts: &[u64], arrived: u64, slack: Slack, most: u64) -> Record {
+    let mut r = Record::of_counts(counts);
+    r.arrived = arrived;
+    r.slack = slack;
+    fill_edges(rng, &mut r, most);
     for item in 0..counts.len() {
         let places = r.places_of(item);
         r.withdrawn[places].fill(rng.chance(1, 8) as u8);
@@ -47,8 +59,7 @@ pub fn sound_of(rng: &mut Rng, counts: &[u64], arrived: u64) -> Record {
     r
 }
 
-fn fill_edges(rng: &mut Rng, r: &mut Record) {
-    let most = rng.pick(&[3, 100, 9_999, MAX_WEIGHT, MAX_WEIGHT]);
+fn fill_edges(rng: &mut Rng, r: &mut Record, most: u64) {
     let density = rng.range(1, 4);
     for bidder in 0..r.arrived as usize {
         for item in 0..r.items as usize {
@@ -117,17 +128,32 @@ fn any_of(rng: &mut Rng, most: u64) -> u64 {
     }
 }
 
-/// Lowers each live edge that is not covered to what the item's least price and the gain
-/// allow.
+/// Lowers each live edge that is not covered to what is allowed.
 fn repair(r: &mut Record) {
-    let factor = r.slack.q - r.slack.p;
     for bidder in 0..r.arrived as usize {
         for item in live_items(r) {
-            let places = r.places_of(item);
-            let price = *r.price[places.clone()].iter().min().expect("a place");
-            let allowed = (r.gain[bidder] + price) / factor;
-            let weight = r.weight_at(bidder, item);
-            set_edge(r, bidder, item, weight.min(allowed));
+            let weight = r.weight_at(bidder, item).min(allowed(r, bidder, item));
+            set_edge(r, bidder, item, weight);
+        }
+    }
+}
+
+/// The most that an edge may weigh for the item's least price and the gain to cover it.
+fn allowed(r: &Record, bidder: usize, item: usize) -> u64 {
+    let price = r.price[r.places_of(item)].iter().min().expect("a place");
+    (r.gain[bidder] + price) / (r.slack.q - r.slack.p)
+}
+
+/// Raises some live edges, none of them at the item that its bidder holds, to the most that
+/// the board stays sound with.
+pub fn raise_some(rng: &mut Rng, r: &mut Record) {
+    for item in live_items(r) {
+        let holders = r.holder[r.places_of(item)].to_vec();
+        for bidder in (0..r.arrived as usize).filter(|&b| !holders.contains(&(b as u8 + 1))) {
+            if rng.chance(1, 2) {
+                let weight = allowed(r, bidder, item).min(MAX_WEIGHT);
+                set_edge(r, bidder, item, weight);
+            }
         }
     }
 }

@@ -162,6 +162,10 @@ pub fn history(rng: &mut Rng, kind: Kind) -> History {
 
 fn shaped(rng: &mut Rng, shape: fn(&mut Rng) -> Shape) -> History {
     let shape = shape(rng);
+    of_shape(rng, shape)
+}
+
+fn of_shape(rng: &mut Rng, shape: Shape) -> History {
     let mut withdrawn = vec![false; shape.counts.len()];
     let mut arrived = 0;
     let mut calls = Vec::new();
@@ -430,6 +434,24 @@ pub fn tiny_places(rng: &mut Rng) -> History {
         refused: 0,
         most_items: 2,
     })
+}
+
+/// "Village kitchens enter worths in pounds" (document 02, R-8): few items, which may have several
+/// places in one of two, often more bidders than places, and weights up to this. The slack is 1/2.
+pub fn pounds(rng: &mut Rng, most: u64) -> History {
+    let several = rng.chance(1, 2);
+    let counts = if several { some_counts(rng, 1, 4, 3) } else { ones(rng.range(1, 5)) };
+    let shape = Shape {
+        counts,
+        slack: Slack { p: 1, q: 2 },
+        calls: rng.range(2, 12),
+        most_edges: rng.pick(&[3, 64]),
+        weights: Weights::UpTo(most),
+        withdrawals: rng.pick(&[0, 10, 20]),
+        refused: 0,
+        most_items: 2,
+    };
+    of_shape(rng, shape)
 }
 
 /// The deepest alternating path: `items` bidders, the last of whom moves every

@@ -71,7 +71,7 @@ impl Ground {
     }
 
     /// The items at which a bidder has a live edge and of which a place is left.
-    fn free(&self, plan: &[u64], bidder: usize) -> Vec<u64> {
+    pub fn free(&self, plan: &[u64], bidder: usize) -> Vec<u64> {
         let cells = self.live[bidder].iter().enumerate().filter(|(_, &weight)| weight != 0);
         let items = cells.map(|(item, _)| item as u64 + 1);
         items.filter(|&item| times(plan, item) < self.counts[item as usize - 1]).collect()
