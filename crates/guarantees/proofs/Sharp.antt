@@ -29,10 +29,10 @@ use Rattle.replay.specs.declared.Ending.{Ending}
 use Rattle.replay.specs.Replay.{pairsOf, commandOf, finished, afterArrived, afterArrival, carryOut, linesFrom}
 use Rattle.replay.specs.Replay.{placeLine, placeLines, afterOpened, firstLine, replayOf}
 use Rattle.replay.specs.ReplayLaws.{TextReached}
-use Rattle.replay.proofs.ReplayLaws.{replay-reached}
 use Rattle.hungarian.specs.Exact.{greatestOn}
 use Rattle.history.specs.Output.{bidderLines, itemLines, outputOf}
 use Rattle.history.proofs.Demand1.{sheets-demand-1}
+use Rattle.history.proofs.Plans.{text-reached}
 use Rattle.guarantees.specs.Small.{sharp, sharpText, sharpPrinted, SmallIsSharp}
 
 replayed : replayOf sharpText ≡ finished sharp 1
@@ -67,7 +67,7 @@ small-is-sharp =
     }
   where
     reached : TextReached sharpText sharp 1
-    reached = replay-reached sharpText sharp 1 (record { answer = Ending.Finished; bids = 1; outcome = replayed; tells = refl })
+    reached = text-reached sharpText (record { board = sharp; answer = Ending.Finished; bids = 1 }) replayed refl
 
     sound : Sound sharp
     sound = history-demand-2 sharp (reached .entries) 1 (reached .reached) .sound

@@ -14,10 +14,11 @@ use Rattle.auction.proofs.Histories.{history-demand-2}
 use Rattle.replay.specs.declared.Ending.{Ending}
 use Rattle.replay.specs.ReplayLaws.{TextReached}
 use Rattle.replay.proofs.Texts.{finished-text}
-use Rattle.replay.proofs.ReplayLaws.{replay-reached}
 use Rattle.hungarian.specs.Exact.{greatestOn}
 use Rattle.history.specs.Output.{bidderLines, itemLines, lastLines, sumOf, outputOf}
 use Rattle.history.proofs.Demand1.{sheets-demand-1}
+use Rattle.history.proofs.Laws.{greatest-share}
+use Rattle.history.proofs.Plans.{text-reached}
 use Rattle.guarantees.specs.Small.{SmallIsExact, SmallBySlack, SmallPrinted}
 
 -- r is q - p, and d is what the quick plan, worth w, falls short by: (q + p) × d ≤ 2 × p × (w + d) < q + p
@@ -46,11 +47,8 @@ small-is-exact b s small =
     most : IsGreatestWith (b .market .arrived) (b .items .count) (placesAt b) (live b)
     most = greatest-weight-with (b .market .arrived) (b .items .count) (placesAt b) (live b)
 
-    share : (b .market .slack .q - b .market .slack .p) * greatestOn b ≤ (b .market .slack .q + b .market .slack .p) * matchingWeight b
-    share = rw (← (most .attained .2)) (quick .share (most .attained .0) (most .attained .1))
-
     same : matchingWeight b ≡ greatestOn b
-    same = no-less (b .market .slack .p) (b .market .slack .q) (matchingWeight b) (greatestOn b) (omega (arith, s .auction .slack .below)) (most .bound (matchingOf b) (quick .plan)) share (omega (arith, small))
+    same = no-less (b .market .slack .p) (b .market .slack .q) (matchingWeight b) (greatestOn b) (omega (arith, s .auction .slack .below)) (most .bound (matchingOf b) (quick .plan)) (greatest-share b s) (omega (arith, small))
 
 -- 2 × p × e < q + p is p × (2 × e - 1) < q
 by-slack : (p q e : ℕ) → 0 < q → (2 * p * e < q + p) ↔ (p * (2 * e - 1) < q)
@@ -81,4 +79,4 @@ small-printed s b entries bids t small =
     (small-is-exact b sound small .greatest)
   where
     reached : TextReached s b bids
-    reached = replay-reached s b bids (record { answer = Ending.Finished; bids = bids; outcome = finished-text t; tells = refl })
+    reached = text-reached s (record { board = b; answer = Ending.Finished; bids = bids }) (finished-text t) refl

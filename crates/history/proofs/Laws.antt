@@ -115,20 +115,15 @@ accepted-is-written s out r (e, f) l =
 
 -- ---- Figures
 
+-- The share, of the greatest weight
+pub greatest-share : (b : Board) → Sound b → (b .market .slack .q - b .market .slack .p) * greatestOn b ≤ (b .market .slack .q + b .market .slack .p) * matchingWeight b
+greatest-share b s =
+    let (plan, p, e) = greatest-weight-with (b .market .arrived) (b .items .count) (placesAt b) (live b) .attained in
+    rw (← e) (sound-demand-2 b s .share plan p)
+
 pub printed-figures : PrintedFigures
 printed-figures s r (e, f) =
     let h = text-reached s r e f in
     let b = r .board in
     let d = history-demand-2 b (h .entries) (r .bids) (h .reached) in
-    let g = greatest-weight-with (b .market .arrived) (b .items .count) (placesAt b) (live b) .attained in
-    let slack = b .market .slack in
-    record {
-      sum = sum-is b (d .sound);
-      share =
-          subst
-          (λ (x : ℕ). (slack .q - slack .p) * x ≤ (slack .q + slack .p) * matchingWeight b)
-          (g .2)
-          (sound-demand-2 b (d .sound) .share (g .0) (g .1));
-      text = h;
-      few = d .bids;
-    }
+    record { sum = sum-is b (d .sound); share = greatest-share b (d .sound); text = h; few = d .bids }
