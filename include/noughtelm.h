@@ -40,6 +40,8 @@
  *   15      "long"     0                                  "text above 65,536 bytes"
  *   16      "places"   item of an opening, or 0           "a count outside 1 to 8 at that kettle, else
  *                                                          over 64 in all at place 0" (document 02)
+ *   17      "large"    0                                  "over 6 of either, withdrawn kettles' places
+ *                                                          counted" (document 02, R-9): bidders, places
  *
  * Edges count from 1 in their list, and so do the items of a withdrawal. Of a text every refusal
  * but 8 and 15 has its line as place; it is line 1 where `P` lines come to over 64 places. A
@@ -76,6 +78,8 @@
 /* The most bytes of a text, and of what is printed of one: a list of so many is never short. */
 #define NOUGHTELM_MAX_TEXT 65536
 #define NOUGHTELM_MAX_OUTPUT 12610
+/* The most bidders that the slow count takes, and the most places in all. */
+#define NOUGHTELM_MAX_COUNTED 6
 /* The most that a gain may be on a page, and the most bytes of a page. */
 #define NOUGHTELM_MAX_GAIN 2000000000
 #define NOUGHTELM_MAX_PAGE 3435
@@ -221,7 +225,7 @@ noughtelm_told noughtelm_read_out(noughtelm_board board, uint64_t *plan, size_t 
                                   uint64_t *prices, size_t prices_len, uint64_t *gains,
                                   size_t gains_len);
 
-/* ---- The exact level, the check, and two plans side by side */
+/* ---- The exact level, the slow count, the check, and two plans side by side */
 
 /*
  * Writes a matching of greatest weight, and prices and gains in whole pence that cover the live
@@ -232,6 +236,13 @@ noughtelm_told noughtelm_read_out(noughtelm_board board, uint64_t *plan, size_t 
 noughtelm_told noughtelm_exact(noughtelm_board board, uint64_t *plan, size_t plan_len,
                                uint64_t *prices, size_t prices_len, uint64_t *gains,
                                size_t gains_len);
+
+/*
+ * The slow count (document 02, R-9), for boards of up to 6 bidders and 6 places: it "tries every
+ * free kettle and none for the first batch, then does likewise for the rest". Refusals: 13, 17,
+ * where the places of withdrawn items count. The value is the greatest weight, the exact level's.
+ */
+noughtelm_told noughtelm_count(noughtelm_board board);
 
 /*
  * Checks a matching, prices and gains, of exactly so many cells, against the board's live edges

@@ -15,6 +15,7 @@ use std::fmt::Debug;
 use std::hint::black_box;
 
 pub mod compare;
+pub mod count;
 pub mod pages;
 pub mod watched;
 

@@ -191,6 +191,7 @@ mod raw {
             gains: *mut u64,
             gains_len: usize,
         ) -> Told;
+        pub fn noughtelm_count(board: Board) -> Told;
         pub fn noughtelm_check(
             board: Board,
             plan: *const u64,
@@ -302,6 +303,11 @@ pub fn exact(board: Board, plan: &mut [u64], prices: &mut [u64], gains: &mut [u6
             gains.len(),
         )
     }
+}
+
+/// The slow count, on boards of up to 6 bidders and 6 places; the value is the greatest weight.
+pub fn count(board: Board) -> Told {
+    unsafe { raw::noughtelm_count(board) }
 }
 
 /// Checks a matching, prices and gains at a slack p/q.

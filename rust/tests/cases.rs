@@ -1,9 +1,11 @@
 //! The cases that document 01 prints, worked out afresh by the bid of R-7 in document 02,
-//! by calls and by texts, the example of R-1, and cases of.
+//! by calls and by texts, the example of R-1, and cases of; the greatest
+//! worths are counted as R-9 has it too.
 
 use noughtelm_tests::model::auction::*;
 use noughtelm_tests::model::check::{check, Claim, Totals};
 use noughtelm_tests::model::compare::{compare, Comparison};
+use noughtelm_tests::model::count::count;
 use noughtelm_tests::model::hungarian::solve;
 use noughtelm_tests::model::refusal::Refusal;
 use noughtelm_tests::model::text::sheet;
@@ -27,6 +29,7 @@ fn assert_state(auction: &Auction, matching: &[u64], weight: u64, sum: u64, grea
     assert_eq!(auction.matching(), matching);
     assert_eq!((auction.weight(), auction.sum()), (weight, sum));
     assert_eq!(solve(&auction.live_weights(), &auction.counts()).weight, greatest);
+    assert_eq!(count(auction), Ok(greatest));
 }
 
 /// The first finds 1,000 and 600: the price rises by the lead of 400 and by 100. The second

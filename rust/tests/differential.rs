@@ -42,12 +42,17 @@ fn histories_are_many() {
     assert!(Kind::ALL.iter().all(|kind| HISTORIES.iter().any(|(other, _)| kind == other)));
 }
 
-/// The read-out after every call; soundness, the page and the exact level now and
-/// then, less often where there are many bidders.
+/// The read-out after every call, and the slow count as long as the board is not far too
+/// large for it; this, soundness, the page and the exact level now and then, less often where
+/// there are many bidders.
 fn look(both: &mut Both, rng: &mut Rng, last: bool) -> Same<()> {
     let room = rooms(rng, &both.model);
     both.read_out(room)?.ok();
-    if last || rng.chance(1, 8 + both.model.arrived) {
+    let now = last || rng.chance(1, 8 + both.model.arrived);
+    if now || both.model.arrived <= 7 && both.model.places <= 7 {
+        both.count()?.ok();
+    }
+    if now {
         assert!(both.is_sound()?);
         both.write_page(ffi::MAX_PAGE)?.expect("room for every page");
         both.exact(room)?.ok();
@@ -92,7 +97,7 @@ fn note_limits(history: &History, seen: &mut Tally) {
     let Slack { p, q } = history.slack;
     seen.count("items", history.items());
     seen.count("places", history.counts.iter().sum());
-    history.counts.iter().for_each(|&count| seen.count("count", count));
+    history.counts.iter().for_each(|&count| seen.count("places of an item", count));
     seen.count("p at q", 10_000 * p + q);
     for call in &history.calls {
         if let Call::Arrive(edges) = call {
@@ -112,7 +117,8 @@ fn run_served(kind: Kind) -> Tally {
 
 #[test]
 fn small_histories() {
-    run_served(Kind::Small);
+    let seen = run_served(Kind::Small);
+    seen.assert_seen("count", &[0, LARGE], 1_000);
 }
 
 #[test]
@@ -171,7 +177,8 @@ fn histories_of_lists() {
 #[test]
 fn histories_of_places() {
     let seen = run_served(Kind::Places);
-    assert!((1..=5).all(|count| seen.of("count", count) > 500));
+    assert!((1..=5).all(|count| seen.of("places of an item", count) > 500));
+    seen.assert_seen("count", &[0, LARGE], 1_000);
 }
 
 /// Places of one item stand equal, and places of several.
@@ -192,7 +199,7 @@ fn histories_of_places_at_the_limits() {
     let seen = run_served(Kind::PlacesLimits);
     assert_eq!(seen.of("places", 64), 200);
     assert!([8, 16, 32, 57].iter().all(|&items| seen.of("items", items) > 20));
-    assert!((1..=8).all(|count| seen.of("count", count) > 20));
+    assert!((1..=8).all(|count| seen.of("places of an item", count) > 20));
     assert!(seen.of("bidders", 128) > 40 && seen.of("weight", MAX_WEIGHT) > 100);
 }
 

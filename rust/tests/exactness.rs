@@ -7,7 +7,8 @@ use noughtelm_tests::gen::sheet::{self, Pattern};
 use noughtelm_tests::gen::{board, claim};
 use noughtelm_tests::model::auction::*;
 use noughtelm_tests::model::check::{Claim, Totals, MAX_PRICE};
-use noughtelm_tests::model::hungarian::{brute_force, solve};
+use noughtelm_tests::model::count;
+use noughtelm_tests::model::hungarian::solve;
 use noughtelm_tests::model::refusal::*;
 use noughtelm_tests::model::sound::{from_record, Record};
 use noughtelm_tests::rng::Rng;
@@ -108,7 +109,7 @@ fn tiny_sheets() {
         let counts = if seed % 2 == 0 { ones(items) } else { counts(rng, items, 3) };
         let record = sheet::board_of(rng, sheet, &counts, withdrawals);
         let live = from_record(&record).unwrap().live_weights();
-        let best = brute_force(&live, &record.counts());
+        let best = count::greatest(&live, &record.counts());
         assert_eq!(solve(&live, &record.counts()).weight, best, "seed {seed}");
         let weight = try_exact(&record, rng, &mut seen);
         assert_eq!(weight, Ok(best), "seed {seed}\n{record:?}");

@@ -1,6 +1,6 @@
 //! The proved calls, from the static library, on the first cases of document 01, as they
 //! come out by the bid of R-7 in document 02, on the example of R-1, and on cases of R-3,
-//! R-4, R-6 and R-7.
+//! R-4, R-6, R-7 and R-9.
 
 use noughtelm_tests::both::compare::order_of;
 use noughtelm_tests::ffi::{
@@ -314,6 +314,7 @@ fn a_flag_is_0_or_1() {
         let told = ffi::read_out(spoilt, &mut plan, &mut prices, &mut gains);
         assert_eq!(told, refused(13, 0));
         assert_eq!(ffi::exact(spoilt, &mut plan, &mut prices, &mut gains), refused(13, 0));
+        assert_eq!(ffi::count(spoilt), refused(13, 0));
         let totals = Totals { number: 13, place: 0, weight: 0, total: 0 };
         assert_eq!(ffi::check(spoilt, &plan, &prices, &gains, 1, 10), totals);
         let comparison = Comparison { number: 13, place: 0, difference: 0, order: 0 };
@@ -384,4 +385,33 @@ fn a_text_with_places() {
     try_sheet(text, b"P\t1\t1\t1000\nP\t2\t1\t800\nY\t1\t100\nY\t2\t0\nT\t190\t2090\t2\nE\t190\n");
     try_sheet(b"K\t2\t1\t10\nP\t1\t9\n", b"R\t16\t2\n");
     try_sheet(b"K\t64\t1\t10\nP\t1\t2\n", b"R\t16\t1\n");
+}
+
+/// Document 02, R-9: "For up to 6 batches and 6 places it tries every free kettle and none for
+/// the first batch, then does likewise for the rest." Then "17 "large", over 6 of either,
+/// withdrawn kettles' places counted, after 13".
+#[test]
+fn the_slow_count() {
+    assert_eq!(ffi::count(case_1().board), served(150));
+    assert_eq!(ffi::count(ffi::withdraw(case_1().board, &[1]).board), served(60));
+    assert_eq!(ffi::count(ffi::withdraw(case_1().board, &[1, 2]).board), served(0));
+    // Item 1 has two places. The heaviest edge, of 100, is not in the heaviest plan.
+    let mut board = arrived(ffi::open_places(2, 1, 10, &[2, 1]).board, &[(1, 100), (2, 90)], 1);
+    for (item, weight) in [(1, 80), (1, 70), (2, 25)] {
+        board = ffi::arrive(board, &[Edge { item, weight }]).board;
+    }
+    assert_eq!(ffi::count(board), served(90 + 80 + 70));
+    for (places, told) in [(6, served(0)), (7, refused(17, 0))] {
+        assert_eq!(ffi::count(ffi::open(places, 1, 10).board), told);
+        let one = ffi::open_places(1, 1, 10, &[places]).board;
+        assert_eq!(ffi::count(one), told);
+        assert_eq!(ffi::count(ffi::withdraw(one, &[1]).board), told);
+    }
+    let mut board = ffi::open(1, 1, 10).board;
+    for bidder in 1..=7 {
+        board = arrived(board, &[], 0);
+        assert_eq!(ffi::count(board), if bidder <= 6 { served(0) } else { refused(17, 0) });
+    }
+    board.gain[0] = Scaled(1);
+    assert_eq!(ffi::count(board), refused(13, 0));
 }

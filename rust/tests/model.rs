@@ -7,7 +7,8 @@ use noughtelm_tests::gen::history::{history, staircase, Call, History, Kind};
 use noughtelm_tests::gen::places::{counts, full};
 use noughtelm_tests::model::auction::*;
 use noughtelm_tests::model::check::{check, Totals};
-use noughtelm_tests::model::hungarian::{brute_force, solve, Exact};
+use noughtelm_tests::model::count;
+use noughtelm_tests::model::hungarian::{solve, Exact};
 use noughtelm_tests::model::refusal::*;
 use noughtelm_tests::model::sound::{from_record, is_sound, to_record};
 use noughtelm_tests::rng::Rng;
@@ -352,7 +353,7 @@ fn compare_solvers(rng: &mut Rng, most: [u64; 3]) {
         let (weights, counts) = tiny_weights(rng, most);
         let exact = solve(&weights, &counts);
         assert_exact(&weights, &counts, &exact);
-        assert_eq!(exact.weight, brute_force(&weights, &counts), "{weights:?} {counts:?}");
+        assert_eq!(exact.weight, count::greatest(&weights, &counts), "{weights:?} {counts:?}");
         positive += (exact.weight > 0) as u64;
         priced += (0..counts.len()).any(|i| counts[i] > 1 && exact.price[i] > 0) as u64;
         let named: BTreeSet<&u64> = exact.matching.iter().filter(|&&cell| cell != 0).collect();

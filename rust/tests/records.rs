@@ -82,6 +82,7 @@ fn assert_spoilt(record: &Record, what: &str) {
     }
     assert_eq!(read_out_record(record, &mut m[..0], &mut y[..0], g), Err(spoilt), "{what}");
     assert_eq!(exact_record(record, m, y, g), Err(spoilt), "{what}");
+    assert_eq!(count_record(record), Err(spoilt), "{what}");
     assert_eq!(check_record(record, &claim), Err(spoilt), "{what}");
     assert_eq!(lists, [[MARK; 200]; 3]);
     for (first, second) in [(0, 0), (0, 200), (200, 0), (record.arrived.min(128) as usize, 200)] {

@@ -15,7 +15,8 @@ use noughtelm_tests::gen::small::{
 };
 use noughtelm_tests::gen::text::{mutate, random, write};
 use noughtelm_tests::model::auction::*;
-use noughtelm_tests::model::hungarian::{brute_force, solve};
+use noughtelm_tests::model::count;
+use noughtelm_tests::model::hungarian::solve;
 use noughtelm_tests::model::sound::{to_record, Record};
 use noughtelm_tests::model::text::sheet;
 use noughtelm_tests::plans::weight_of;
@@ -54,7 +55,7 @@ fn look(record: &Record, seen: &mut Tally) -> Same<Looked> {
     let greatest = solve(&ground.live, &ground.counts).weight;
     if record.arrived <= 5 {
         seen.count("everything tried", 1);
-        equal("the greatest weight", greatest, brute_force(&ground.live, &ground.counts))?;
+        equal("the greatest weight", greatest, count::greatest(&ground.live, &ground.counts))?;
     }
     let mut both = Both::on(record.clone(), seen);
     let [mut plan, ..] = both.read_out(wide())?.expect("a sound board and room");

@@ -12,8 +12,8 @@ use noughtelm_tests::model::refusal::*;
 use noughtelm_tests::model::sound::{to_record, Record};
 use noughtelm_tests::rng::Rng;
 
-const CALLS: [&str; 7] =
-    ["arrive", "withdraw", "read out", "exact", "check", "compare", "write page"];
+const CALLS: [&str; 8] =
+    ["arrive", "withdraw", "read out", "exact", "count", "check", "compare", "write page"];
 
 /// Lists to withdraw: none, one, and several, served on some sound board or on none.
 const WITHDRAWN: [&[u64]; 10] =
@@ -46,6 +46,7 @@ fn ask(both: &mut Both, rng: &mut Rng) -> Same<u64> {
     note(both.read_out(room)?.err());
     let room = if rng.chance(1, 2) { wide() } else { [0; 3] };
     note(both.exact(room)?.err());
+    note(both.count()?.err());
     let slack = rng.pick(&[both.model.slack, Slack { p: 0, q: 1 }, Slack { p: 5, q: 5 }]);
     note(both.check(&empty_claim(slack))?.err());
     let [first, second] = plans(rng, &both.model);
@@ -176,6 +177,7 @@ fn changed_numbers() {
     seen.assert_seen("withdraw", &[0, SPOILT, UNKNOWN, GONE, ORDER], 20);
     seen.assert_seen("read out", &[0, SPOILT, SHORT], 100);
     seen.assert_seen("exact", &[0, SPOILT, SHORT], 100);
+    seen.assert_seen("count", &[0, SPOILT, LARGE], 100);
     seen.assert_seen("check", &[0, SPOILT, SLACK, UNEVEN], 2);
     seen.assert_seen("compare", &[0, SPOILT, UNEVEN, CLASH], 50);
     seen.assert_seen("write page", &[0, SPOILT, SHORT], 100);

@@ -1,9 +1,10 @@
 //! The deepest alternating paths of the exact level, many items withdrawn at once from a
-//! full board, and its plans compared: in a thread with a stack of 2 MB by call, and in the
-//! program, which compares none, under a limit of 1 MB.
+//! full board, its plans compared, and the largest boards counted: in a thread with a stack of
+//! 2 MB by call, and in the program, which compares and counts none, under a limit of 1 MB.
 
 use noughtelm_tests::both::{board, record, shown, wide, Both, Tally};
 use noughtelm_tests::ffi::{self, MAX_OUTPUT};
+use noughtelm_tests::gen::counted::every_way;
 use noughtelm_tests::gen::history::{level, level_of, slope, staircase, staircase_down, History};
 use noughtelm_tests::gen::text::{dense, dense_places, write};
 use noughtelm_tests::model::sound::to_record;
@@ -109,6 +110,20 @@ fn compare_plans(text: Vec<u8>) {
         both.compare(own, &exact).expect("both agree").expect("two plans").difference
     });
     assert!(difference < 0, "{difference}");
+}
+
+/// The slow count of 6 bidders with every edge, on 6 places laid in every way.
+#[test]
+fn counts_in_a_thread_of_2_mb() {
+    let tried = in_a_small_thread(|| {
+        let mut seen = Tally::default();
+        for counts in every_way(6) {
+            let mut both = Both::on(to_record(&level_of(counts, 6).auction()), &mut seen);
+            assert_eq!(both.count(), Ok(Ok(6 * 777)));
+        }
+        seen.of("count", 0)
+    });
+    assert_eq!(tried, 32);
 }
 
 /// Items that leave the board of the dense text at once; each has a holder.

@@ -41,6 +41,7 @@ fn look(both: &mut Both, rng: &mut Rng) -> Same<()> {
     both.read_out(room)?.ok();
     both.write_page(MAX_PAGE)?.expect("a sound board and room");
     let exact = both.exact(wide())?.expect("a sound board and room");
+    both.count()?.ok();
     let auction = from_record(&both.model).expect("a sound board");
     both.check(&claim::own(&auction))?.ok();
     both.compare(&auction.matching(), &exact.matching)?.expect("two plans");
@@ -93,6 +94,7 @@ fn assert_all_seen(boards: u64, (seen, unreached, high): (Tally, u64, u64)) {
     seen.assert_seen("withdraw", &[0, UNKNOWN, GONE, ORDER], 100);
     seen.assert_seen("read out", &[0, SHORT], 100);
     seen.assert_seen("exact", &[0], 100);
+    seen.assert_seen("count", &[0, LARGE], 500);
     seen.assert_seen("check", &[0, SLACK, UNEVEN, CLASH, PRICE, BARE], 50);
     seen.assert_seen("compare", &[0, UNEVEN, CLASH], 1_000);
 }

@@ -96,6 +96,7 @@ static void exact(const noughtelm_board *board)
     }
     totals_are("exact, checked",
                noughtelm_check(*board, lists, 2, lists + 3, 2, lists + 6, 2, 0, 1), 0, 0, 150, 150);
+    told_is("counted", noughtelm_count(*board), 0, 0, 150);
 }
 
 /* Cases 7 and 8. */

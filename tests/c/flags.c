@@ -29,6 +29,7 @@ static void spoilt(const char *what, noughtelm_board board)
     told_is(what, noughtelm_exact(board, lists, 2, lists + 2, 2, lists + 4, 2), 13, 0, 0);
     told_is(what, noughtelm_read_out(board, NULL, 0, NULL, 0, NULL, 0), 13, 0, 0);
     told_is(what, noughtelm_exact(board, NULL, 0, NULL, 0, NULL, 0), 13, 0, 0);
+    told_is(what, noughtelm_count(board), 13, 0, 0);
     totals_are(what, noughtelm_check(board, lists, 2, lists + 2, 2, lists + 4, 2, 0, 1), 13, 0, 0, 0);
     comparison_is(what, noughtelm_compare(board, lists, 2, lists, 2), 13, 0, 0, 0);
     comparison_is(what, noughtelm_compare(board, NULL, 0, NULL, 0), 13, 0, 0, 0);

@@ -120,6 +120,7 @@ static void lists(void)
     told_is("exact", noughtelm_exact(board, m, 3, y, 1, g, 3), 0, 0, 270);
     cells_are("exact, plan", m, plan, 3);
     totals_are("exact, checked", noughtelm_check(board, m, 3, y, 1, g, 3, 0, 1), 0, 0, 270, 270);
+    told_is("counted", noughtelm_count(board), 0, 0, 270);
 }
 
 /* "A plan may name a kettle once per place". */
@@ -189,6 +190,7 @@ static void spoilt(const char *what, noughtelm_board board)
     }
     told_is(what, noughtelm_read_out(board, m, 3, y, 1, g, 3), 13, 0, 0);
     told_is(what, noughtelm_exact(board, m, 3, y, 1, g, 3), 13, 0, 0);
+    told_is(what, noughtelm_count(board), 13, 0, 0);
 }
 
 static void boards_that_are_not_sound(void)

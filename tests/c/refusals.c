@@ -137,6 +137,27 @@ static void limit(void)
     }
 }
 
+/* The slow count of 6 items and 6 bidders is served, that of 7 of either is 17; the board is kept. */
+static void large(void)
+{
+    noughtelm_board board = open_ones(6, 1, 10).board;
+    const noughtelm_board seven = open_ones(7, 1, 10).board;
+    noughtelm_board lent = seven;
+    told_is("17, items", noughtelm_count(lent), 17, 0, 0);
+    board_is("17, items, the board", &lent, &seven);
+    for (int i = 0; i < NOUGHTELM_MAX_COUNTED; i++) {
+        board = noughtelm_arrive(board, NULL, 0).board;
+        told_is("up to 6 bidders", noughtelm_count(board), 0, 0, 0);
+    }
+    board = noughtelm_arrive(board, NULL, 0).board;
+    lent = board;
+    told_is("17, bidders", noughtelm_count(lent), 17, 0, 0);
+    board_is("17, bidders, the board", &lent, &board);
+    told_is("17, a withdrawn item", noughtelm_count(without(seven, 1)), 17, 0, 0);
+    lent.market.slack.p = 0;
+    told_is("13 before 17", noughtelm_count(lent), 13, 0, 0);
+}
+
 /* A text that is refused, by all three calls. */
 static void text(const char *what, const uint8_t *bytes, size_t count, uint64_t number, uint64_t line)
 {
@@ -190,6 +211,7 @@ int main(void)
     full();
     checks();
     limit();
+    large();
     texts();
     return all_checks();
 }

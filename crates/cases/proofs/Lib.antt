@@ -6,3 +6,4 @@ pub mod Pages
 pub mod FullBoard
 pub mod Refused
 pub mod Sides
+pub mod Counts

@@ -26,10 +26,12 @@ use Rattle.auction.specs.ReadOut.{ReadOutcome, readOutBy, readOutOf}
 use Rattle.certificate.specs.Check.{checkBy, checkOf, checkRest}
 use Rattle.comparison.specs.Compare.{compareBy}
 use Rattle.comparison.proofs.Outcomes.{plansOn, compare-plans}
+use Rattle.counting.specs.Call.{countBy}
+use Rattle.counting.proofs.Outcomes.{largeCheck, count-sound}
 use Rattle.supply.proofs.SoundLaw.{sound-decides}
 use Rattle.auction.proofs.Demand2.{arrive-demand-2, withdraw-demand-2}
 use Rattle.supply.proofs.Openings.{opened-sound}
-use Rattle.cases.specs.Play.{Call, arrive, withdraw, check, readOut, compare, afterCheck, afterReadOut, afterCompare, Case, Seen, refusal, seen, played, withdrew, afterArrive, afterWithdraw, playAll, opening, play}
+use Rattle.cases.specs.Play.{Call, arrive, withdraw, check, readOut, compare, countSlow, afterCheck, afterReadOut, afterCompare, afterCount, Case, Seen, refusal, seen, played, withdrew, afterArrive, afterWithdraw, playAll, opening, play}
 
 -- Of a read-out's checks the one after the test
 abbrev roomCheck : Board → Lists → List Check
@@ -43,6 +45,7 @@ skipAll (withdraw items ∷ rest) b bids = afterWithdraw (skipAll rest) bids (wi
 skipAll (check l p q ∷ rest) b bids = afterCheck (checkBy b l (firstOf (checkRest b l p q)))
 skipAll (readOut l ∷ rest) b bids = afterReadOut (readOutBy b l (firstOf (roomCheck b l)) .lists) (readOutBy b l (firstOf (roomCheck b l)) .answer)
 skipAll (compare first second ∷ rest) b bids = afterCompare (compareBy b first second (firstOf (plansOn b first second)))
+skipAll (countSlow ∷ rest) b bids = afterCount (countBy b (firstOf (largeCheck b)))
 
 pub arrive-skips : (b : Board) (edges : List Edge) → Sound b → arriveOf b edges ≡ arriveBy b edges (firstOf (arriveRest b edges))
 unfolding arriveOf firstOf
@@ -95,6 +98,7 @@ all-skip (withdraw items ∷ rest) b bids s =
 all-skip (check l p q ∷ rest) b bids s = ap afterCheck (check-skips b l p q s)
 all-skip (readOut l ∷ rest) b bids s = ap (λ (o : ReadOutcome). afterReadOut (o .lists) (o .answer)) (read-out-skips b l s)
 all-skip (compare first second ∷ rest) b bids s = ap afterCompare (sym (compare-plans b first second (sound-decides b .complete s)))
+all-skip (countSlow ∷ rest) b bids s = ap afterCount (sym (count-sound b (sound-decides b .complete s)))
 
 unfoldable pub skipOpening : List Call → Board → Opened → Seen
 skipOpening calls b Opened.Ready = skipAll calls b []

@@ -7,3 +7,4 @@ pub mod Pages
 pub mod FullBoard
 pub mod Refused
 pub mod Sides
+pub mod Counts

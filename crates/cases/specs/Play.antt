@@ -27,6 +27,8 @@ use Rattle.certificate.specs.declared.Checked.{Checked}
 use Rattle.certificate.specs.Check.{checkOf}
 use Rattle.comparison.specs.declared.Compared.{Compared}
 use Rattle.comparison.specs.Compare.{compareOf, orderNumber}
+use Rattle.counting.specs.declared.Counted.{Counted}
+use Rattle.counting.specs.Call.{countOf}
 
 -- A call after opening
 pub data Call : Type 0 where
@@ -35,6 +37,7 @@ pub data Call : Type 0 where
   check : Lists → ℕ → ℕ → Call
   readOut : Lists → Call
   compare : List ℕ → List ℕ → Call
+  countSlow : Call
 
 -- A case: a board to open, and the calls on it
 pub record Case : Type 0 where
@@ -52,13 +55,14 @@ abbrev pub on : ℕ → ℕ → ℕ → List Call → Case
 on items p q calls = onPlaces items p q (replicate items 1) calls
 
 -- What is seen at the end: the matching, gains and prices, the matching's weight, the sum of prices and gains, the greatest weight, the bids of each
--- call; or a check's two totals; or the lists that were read out; or the difference and the order of two plans; or the refusal that stopped the case, by
--- number and place
+-- call; or a check's two totals; or the lists that were read out; or the difference and the order of two plans; or what was counted; or the refusal
+-- that stopped the case, by number and place
 pub data Seen : Type 0 where
   board : List ℕ → List ℕ → List ℕ → ℕ → ℕ → ℕ → List ℕ → Seen
   totals : ℕ → ℕ → Seen
   wrote : Lists → Seen
   sides : ℤ → ℕ → Seen
+  counted : ℕ → Seen
   refused : ℕ → ℕ → Seen
   unended : Seen
 
@@ -92,7 +96,7 @@ unfoldable pub afterWithdraw : (Board → List ℕ → Seen) → List ℕ → Ou
 afterWithdraw next bids spent = unended
 afterWithdraw next bids (done a) = withdrew next bids (a .board) (a .answer)
 
--- A check is the last call, and so are a read-out and a comparison
+-- A check is the last call, and so are a read-out, a comparison and a count
 unfoldable pub afterCheck : Checked → Seen
 afterCheck (Checked.Totals weight sum) = totals (weight .0) (sum .0)
 afterCheck (Checked.Refused r) = refusal (codeOf r)
@@ -105,6 +109,10 @@ unfoldable pub afterCompare : Compared → Seen
 afterCompare (Compared.Plans difference order) = sides difference (orderNumber order)
 afterCompare (Compared.Refused r) = refusal (codeOf r)
 
+unfoldable pub afterCount : Counted → Seen
+afterCount (Counted.Weight weight) = counted (weight .0)
+afterCount (Counted.Refused r) = refusal (codeOf r)
+
 -- The calls in turn; the bids of the last call first
 unfoldable pub playAll : List Call → Board → List ℕ → Seen
 playAll [] b bids = seen b bids
@@ -113,6 +121,7 @@ playAll (withdraw items ∷ rest) b bids = afterWithdraw (playAll rest) bids (wi
 playAll (check l p q ∷ rest) b bids = afterCheck (checkOf b l p q)
 playAll (readOut l ∷ rest) b bids = afterReadOut (readOutOf b l .lists) (readOutOf b l .answer)
 playAll (compare first second ∷ rest) b bids = afterCompare (compareOf b first second)
+playAll (countSlow ∷ rest) b bids = afterCount (countOf b)
 
 unfoldable pub opening : List Call → Board → Opened → Seen
 opening calls b Opened.Ready = playAll calls b []

@@ -9,6 +9,7 @@ use certificate::Totals;
 use comparison::Compared;
 use comparison::Comparison;
 use comparison::order::Ordering;
+use counting::Counted;
 use history::planning::Planned;
 use hungarian::exact::Greatest;
 use page::reading::PageRead;
@@ -29,6 +30,7 @@ ghost use Rattle.auction.specs.ReadOut.{readOutTold};
 ghost use Rattle.hungarian.specs.Exact.{exactTold};
 ghost use Rattle.certificate.specs.Check.{checkedTold};
 ghost use Rattle.comparison.specs.Compare.{orderNumber, comparedTold};
+ghost use Rattle.counting.specs.Call.{countedTold};
 ghost use Rattle.replay.specs.TextDemand1.{endingTold};
 ghost use Rattle.history.specs.Demand1.{plannedTold};
 ghost use Rattle.page.specs.Writing.{writtenTold};
@@ -156,6 +158,16 @@ pub(crate) fn exact_told(answer: Greatest) -> Told
     match answer {
         Greatest::Weight(weight) => serving(weight.0),
         Greatest::Refused(refusal) => refusing(refusal),
+    }
+}
+
+// What the slow count answers.
+pub(crate) fn counted_told(answer: Counted) -> Told
+    ensures { λ r. ⌜ r ≡ countedTold answer ⌝ }
+{
+    match answer {
+        Counted::Weight(weight) => serving(weight.0),
+        Counted::Refused(refusal) => refusing(refusal),
     }
 }
 

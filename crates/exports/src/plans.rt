@@ -1,11 +1,13 @@
-// The exact level, the check of lists that were made elsewhere, and two plans side by side.
+// The exact level, the slow count, the check of lists that were made elsewhere, and two plans side by side.
 use crate::answers::comparison_of;
+use crate::answers::counted_told;
 use crate::answers::exact_told;
 use crate::answers::totals_of;
 use certificate::Totals;
 use certificate::check;
 use comparison::Comparison;
 use comparison::compare;
+use counting::count;
 use hungarian::exact::exact;
 use refusals::Told;
 use supply::record::Board;
@@ -13,6 +15,7 @@ ghost use mathlib.Core.Path.{_≡_};
 ghost use Rattle.board.specs.Lent.{lists};
 ghost use Rattle.certificate.specs.Check.{checkOf, checkedTold};
 ghost use Rattle.comparison.specs.Compare.{compareOf, comparedTold};
+ghost use Rattle.counting.specs.Call.{countOf, countedTold};
 ghost use Rattle.exports.specs.Answers.{ExactAnswer};
 
 // Writes a matching of greatest weight, and prices and gains that show it, into three lent lists. The value is that weight.
@@ -27,6 +30,15 @@ pub extern "C" fn noughtelm_exact(
 {
     let answer = exact(board, plan, prices, gains);
     exact_told(answer)
+}
+
+// Counts the greatest weight of a plan, of few bidders and places. The value is that weight.
+#[no_mangle]
+pub extern "C" fn noughtelm_count(board: Board) -> Told
+    ensures { λ r. ⌜ r ≡ countedTold (countOf board) ⌝ }
+{
+    let answer = count(board);
+    counted_told(answer)
 }
 
 // Checks a matching, prices and gains against a board's live edges at a slack p/q.

@@ -36,6 +36,8 @@ use Rattle.comparison.proofs.Demand1.{compare-demand-1, compare-order, compares
 use Rattle.comparison.proofs.Differences.{difference-exact, difference-within}
 use Rattle.comparison.proofs.Orders.{order-means, order-total, signs-tell}
 use Rattle.comparison.proofs.Outcomes.{compared-apart}
+use Rattle.counting.proofs.Counts.{count-is-best-trial, trials-are-plans, count-means, count-is-greatest, count-of-ones}
+use Rattle.counting.proofs.Demand1.{count-demand-1, count-order, count-takes}
 use Rattle.history.proofs.Demand1.{plans-demand-1, sheets-demand-1}
 use Rattle.history.proofs.Laws.{plan-ends, printed-figures}
 use Rattle.history.proofs.Walls.{walls-demand-1}
@@ -45,12 +47,13 @@ use Rattle.page.proofs.WriteLaws.{write-demand-1}
 use Rattle.page.proofs.ReadLaws.{read-demand-1}
 use Rattle.page.proofs.Demand1.{page-orders}
 use Rattle.page.proofs.Laws.{writes-said, reads-said, reads-back}
-use Rattle.guarantees.specs.Guarantees.{TableFirst, QuickBids, EqualPairs, KitchenPage, SteamLine, SideBySide, BidAsSlides, MorePlaces, BiggerBid, SmallSheets, Guarantees}
+use Rattle.guarantees.specs.Guarantees.{TableFirst, QuickBids, EqualPairs, KitchenPage, SteamLine, SideBySide, BidAsSlides, MorePlaces, BiggerBid, SmallSheets, SlowCount, Guarantees}
 use Rattle.guarantees.proofs.Checks.{exact-accepted, equal-totals-best, read-out-accepted}
 use Rattle.guarantees.proofs.BesideExact.{no-difference-best}
 use Rattle.guarantees.proofs.BySlides.{lines-by-slides, replay-by-slides}
 use Rattle.guarantees.proofs.Small.{small-is-exact, small-printed, small-by-slack}
 use Rattle.guarantees.proofs.Sharp.{small-is-sharp}
+use Rattle.guarantees.proofs.BesideCount.{count-is-exact, count-printed}
 
 demand-1 : TableFirst
 demand-1 =
@@ -71,10 +74,12 @@ demand-1 =
       reads-page = read-demand-1;
       walls = walls-demand-1;
       compares = compare-demand-1;
+      counts = count-demand-1;
       orders = call-orders;
       check-order = check-order;
       page-orders = page-orders;
       compare-order = compare-order;
+      count-order = count-order;
       numbers = codes-apart;
       told = told-apart;
       compared = compared-apart;
@@ -208,6 +213,19 @@ bigger-bid = record { second = second-once; within = second-within; pairs = pair
 small-sheets : SmallSheets
 small-sheets = record { exact = small-is-exact; printed = small-printed; slack = small-by-slack; sharp = small-is-sharp }
 
+slow-count : SlowCount
+slow-count =
+    record {
+      tries = count-is-best-trial;
+      plans = trials-are-plans;
+      means = count-means;
+      greatest = count-is-greatest;
+      ones = count-of-ones;
+      takes = count-takes;
+      exact = count-is-exact;
+      printed = count-printed;
+    }
+
 pub guarantees : Guarantees
 guarantees =
     record {
@@ -221,4 +239,5 @@ guarantees =
       places = more-places;
       bigger = bigger-bid;
       small = small-sheets;
+      count = slow-count;
     }

@@ -30,6 +30,8 @@ use Rattle.certificate.specs.Demand1.{CheckDemand1, CheckOrder}
 use Rattle.comparison.specs.Demand1.{CompareDemand1, CompareOrder, ComparedApart, ComparesPlans}
 use Rattle.comparison.specs.DifferenceLaws.{DifferenceExact, DifferenceWithin}
 use Rattle.comparison.specs.OrderLaws.{OrderMeans, OrderTotal, SignsTell}
+use Rattle.counting.specs.CountLaws.{CountIsBestTrial, TrialsArePlans, CountMeans, CountIsGreatest, CountOfOnes}
+use Rattle.counting.specs.Demand1.{CountDemand1, CountOrder, CountTakes}
 use Rattle.history.specs.Demand1.{PlansDemand1, SheetsDemand1}
 use Rattle.history.specs.Laws.{PlanEnds, PrintedFigures}
 use Rattle.history.specs.Wall.{WallsDemand1}
@@ -40,6 +42,7 @@ use Rattle.guarantees.specs.Checks.{ExactAccepted, EqualTotalsBest, Read
 use Rattle.guarantees.specs.BesideExact.{NoDifferenceBest}
 use Rattle.guarantees.specs.BySlides.{LinesBySlides, ReplayBySlides}
 use Rattle.guarantees.specs.Small.{SmallIsExact, SmallBySlack, SmallPrinted, SmallIsSharp}
+use Rattle.guarantees.specs.BesideCount.{CountIsExact, CountPrinted}
 
 -- Demand 1
 pub record TableFirst : Type 0 where
@@ -64,11 +67,14 @@ pub record TableFirst : Type 0 where
   pub walls : WallsDemand1
   -- R-4: of two plans side by side
   pub compares : CompareDemand1
+  -- R-9: of the slow count
+  pub counts : CountDemand1
   -- "by the stated order of checks": the order of each call's checks, in numbers and places
   pub orders : CallOrders
   pub check-order : CheckOrder
   pub page-orders : PageOrders
   pub compare-order : CompareOrder
+  pub count-order : CountOrder
   -- "A refusal returns number and place": no two refusals have both in common, so that they name one row; and what is told names one answer
   pub numbers : CodesApart
   pub told : ToldApart
@@ -266,6 +272,24 @@ pub record SmallSheets : Type 0 where
   -- "is below": where the two are equal it can fail
   pub sharp : SmallIsSharp
 
+-- R-9, the slow count
+pub record SlowCount : Type 0 where
+  -- "it tries every free kettle and none for the first batch, then does likewise for the rest": the count is the greatest of all that may be tried so, of any
+  -- batches, kettles and places
+  pub tries : CountIsBestTrial
+  -- What a trial adds up to is what a plan is worth, and nothing else is
+  pub plans : TrialsArePlans
+  -- "It returns the greatest worth": some plan is worth what is counted, and no plan is worth more
+  pub means : CountMeans
+  -- That is the greatest worth as the exact level has it, over all places; with one place each, over kettles
+  pub greatest : CountIsGreatest
+  pub ones : CountOfOnes
+  -- "For up to 6 batches and 6 places": the call takes just these sound boards, and answers the count
+  pub takes : CountTakes
+  -- "this is to be shown equal to the exact level's on every sheet it takes"; and so to line `E` of every text that is carried out
+  pub exact : CountIsExact
+  pub printed : CountPrinted
+
 pub record Guarantees : Type 0 where
   pub demand1 : TableFirst
   pub demand2 : QuickBids
@@ -277,3 +301,4 @@ pub record Guarantees : Type 0 where
   pub places : MorePlaces
   pub bigger : BiggerBid
   pub small : SmallSheets
+  pub count : SlowCount

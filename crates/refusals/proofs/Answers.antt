@@ -3,7 +3,7 @@ use mathlib.Core.Path.{_≡_, ap}
 use Prim.Native.Nat.{ℕ, _<_}
 use native.Mathlib.Omega.{arith}
 use Rattle.refusals.specs.declared.Refusal.{Refusal}
-use Rattle.refusals.specs.declared.Refusal.the-variants.{Count, Slack, Full, Unknown, Gone, Worth, Order, Short, Uneven, Clash, Price, Bare, Spoilt, Line, Long, Places}
+use Rattle.refusals.specs.declared.Refusal.the-variants.{Count, Slack, Full, Unknown, Gone, Worth, Order, Short, Uneven, Clash, Price, Bare, Spoilt, Line, Long, Places, Large}
 use Rattle.refusals.specs.declared.Told.{Told}
 use Rattle.refusals.specs.Codes.{Code, code, codeOf}
 use Rattle.refusals.specs.Told.{served, refusedAt, refused, ToldApart}
@@ -27,6 +27,7 @@ numbered Spoilt = omega arith
 numbered (Line i) = omega arith
 numbered Long = omega arith
 numbered (Places i) = omega arith
+numbered Large = omega arith
 
 abbrev codeIn : Told → Code
 codeIn t = code (t .number) (t .place)

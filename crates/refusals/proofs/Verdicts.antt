@@ -11,13 +11,13 @@ use Rattle.duality.proofs.Decide.{clash, false-is}
 use Rattle.refusals.specs.declared.Refusal.{Refusal}
 use Rattle.refusals.specs.declared.Verdict.{Verdict}
 use Rattle.refusals.specs.declared.Verdict.the-variants.{Served, Refused}
-use Rattle.refusals.specs.declared.Refusal.the-variants.{Count, Slack, Full, Unknown, Gone, Worth, Order, Short, Uneven, Clash, Price, Bare, Spoilt, Line, Long, Places}
+use Rattle.refusals.specs.declared.Refusal.the-variants.{Count, Slack, Full, Unknown, Gone, Worth, Order, Short, Uneven, Clash, Price, Bare, Spoilt, Line, Long, Places, Large}
 use Rattle.refusals.specs.Codes.{Code, codeOf, CodesApart}
 use Rattle.refusals.specs.Demand1.{Check, checkFor, firstOf, Unmet, none, also, Leads, Demand1}
 
 -- The table's rows at a place, and the one with a number
 abbrev rows : ℕ → List Refusal
-rows i = Count ∷ Slack ∷ Full ∷ Unknown i ∷ Gone i ∷ Worth i ∷ Order i ∷ Short ∷ Uneven ∷ Clash i ∷ Price i ∷ Bare i ∷ Spoilt ∷ Line i ∷ Long ∷ Places i ∷ []
+rows i = Count ∷ Slack ∷ Full ∷ Unknown i ∷ Gone i ∷ Worth i ∷ Order i ∷ Short ∷ Uneven ∷ Clash i ∷ Price i ∷ Bare i ∷ Spoilt ∷ Line i ∷ Long ∷ Places i ∷ Large ∷ []
 
 abbrev rowOf : Code → Refusal
 rowOf c = getD (rows (c .place)) (c .number - 1) Count
@@ -39,6 +39,7 @@ row-of Spoilt = refl
 row-of (Line i) = refl
 row-of Long = refl
 row-of (Places i) = refl
+row-of Large = refl
 
 pub codes-apart : CodesApart
 codes-apart r s e = sym (row-of r) ∙ (ap rowOf e ∙ row-of s)

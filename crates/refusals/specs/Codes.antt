@@ -2,7 +2,7 @@
 use mathlib.Core.Path.{_≡_}
 use Prim.Native.Nat.{ℕ}
 use Rattle.refusals.specs.declared.Refusal.{Refusal}
-use Rattle.refusals.specs.declared.Refusal.the-variants.{Count, Slack, Full, Unknown, Gone, Worth, Order, Short, Uneven, Clash, Price, Bare, Spoilt, Line, Long, Places}
+use Rattle.refusals.specs.declared.Refusal.the-variants.{Count, Slack, Full, Unknown, Gone, Worth, Order, Short, Uneven, Clash, Price, Bare, Spoilt, Line, Long, Places, Large}
 
 -- "A refusal returns number and place"
 pub record Code : Type 0 where
@@ -31,6 +31,8 @@ codeOf (Line i) = code 14 i
 codeOf Long = code 15 0
 -- Document 02, R-6: 16 "places"
 codeOf (Places i) = code 16 i
+-- Document 02, R-9: 17 "large". "It and every later number without a stated place have place 0"
+codeOf Large = code 17 0
 
 -- No two refusals have number and place in common
 abbrev pub CodesApart : Type 0

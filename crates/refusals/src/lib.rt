@@ -20,6 +20,7 @@ pub enum Refusal {
     Line(u64),
     Long,
     Places(u64),
+    Large,
 }
 
 // Whether a call is served.
@@ -58,6 +59,7 @@ impl Refusal {
             Refusal::Line(_) => 14,
             Refusal::Long => 15,
             Refusal::Places(_) => 16,
+            Refusal::Large => 17,
         }
     }
 
@@ -82,6 +84,7 @@ impl Refusal {
             Refusal::Line(place) => place,
             Refusal::Long => 0,
             Refusal::Places(place) => place,
+            Refusal::Large => 0,
         }
     }
 }

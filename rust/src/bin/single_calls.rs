@@ -1,8 +1,15 @@
-//! Makes a full board and then each call on it once, and the calls on the dense text: what a call costs by
-//! itself is read off the symbols `noughtelm_*` of a run that counts instructions.
+//! Makes a full board and then each call on it once, the slow count on the largest board that it takes, and
+//! the calls on the dense text: what a call costs by itself is read off the symbols `noughtelm_*` of a run
+//! that counts instructions.
 
+use noughtelm_tests::both::board as board_of;
 use noughtelm_tests::ffi::*;
+use noughtelm_tests::gen::sheet::{self, sheet, Pattern};
 use noughtelm_tests::gen::text::dense;
+use noughtelm_tests::model::auction::ones;
+use noughtelm_tests::model::count::greatest;
+use noughtelm_tests::model::sound::Record;
+use noughtelm_tests::rng::Rng;
 use std::hint::black_box;
 
 /// 127 bidders with an edge at each of 64 items, weights to 9,999, slack 1/100.
@@ -18,6 +25,20 @@ fn full_board() -> Board {
         board = arrive(board, &edges).board;
     }
     board
+}
+
+/// 6 bidders with an edge at each of 6 items, weights to 9,999: the slow count tries nothing
+/// larger. It is the model's board, so that no call of the library goes into it.
+fn most_counted() -> Record {
+    let rng = &mut Rng::new(6);
+    let rows = sheet(rng, Pattern::UpTo(9_999), 6, 6, 8);
+    sheet::board(rng, rows, 6, 0)
+}
+
+/// The same count in plain Rust, of the weights alone.
+#[inline(never)]
+fn plain_count(weights: &[Vec<u64>]) -> u64 {
+    greatest(weights, &ones(6))
 }
 
 /// A withdrawal, refused or of one item or of half of them: each by a symbol of its own.
@@ -62,6 +83,9 @@ fn main() {
     // By another symbol than the arrivals above, so that it is counted by itself.
     let none = EdgeBuffer::new(&[]);
     println!("arrive without edges {}", arrive_buffer(black_box(board), none).number);
+    let counted = most_counted();
+    println!("the slow count of 6 by 6 {}", count(black_box(board_of(&counted))).value);
+    println!("the same in plain Rust {}", plain_count(black_box(&sheet::live(&counted))));
     let text = dense();
     let mut page = vec![0; MAX_OUTPUT];
     let replayed = replay(black_box(&text));

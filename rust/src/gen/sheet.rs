@@ -92,6 +92,12 @@ pub fn live(r: &Record) -> Sheet {
     (0..r.arrived as usize).map(row).collect()
 }
 
+/// The weights of all its edges, those at withdrawn items too.
+pub fn all(r: &Record) -> Sheet {
+    let row = |bidder: usize| (0..r.items as usize).map(|item| r.weight_at(bidder, item)).collect();
+    (0..r.arrived as usize).map(row).collect()
+}
+
 /// A row's edges in rising order.
 pub fn edges(row: &[u64]) -> Vec<Edge> {
     let cells = row.iter().enumerate().filter(|(_, &weight)| weight != 0);

@@ -4,6 +4,7 @@
 use super::auction::*;
 use super::check::{check, Claim, Totals};
 use super::compare::{compare, Comparison};
+use super::count::count;
 use super::hungarian;
 use super::refusal::*;
 use super::sound::{from_record, to_record, Record};
@@ -54,6 +55,11 @@ pub fn exact_record(
     price[..items].copy_from_slice(&exact.price);
     gain[..bidders].copy_from_slice(&exact.gain);
     Ok(exact.weight)
+}
+
+/// 17 "over 6 of either", "after 13".
+pub fn count_record(record: &Record) -> Result<u64, Refusal> {
+    count(&from_record(record)?)
 }
 
 pub fn check_record(record: &Record, claim: &Claim) -> Result<Totals, Refusal> {

@@ -1,5 +1,5 @@
 //! A matching of greatest weight with a cover of equal sum, where an item has places and
-//! its price counts once for each, and a count by trying everything, for tiny matrices.
+//! its price counts once for each.
 //!
 //! Rows are bidders, columns items, 0 is no edge. The solver is the assignment
 //! method of least cost with potentials, over the places and one more dummy
@@ -110,24 +110,4 @@ pub fn solve(weights: &[Vec<u64>], counts: &[u64]) -> Exact {
     }
     let gain = a.row[1..].iter().map(|&u| (-u) as u64).collect();
     Exact { weight, matching, price, gain }
-}
-
-/// The greatest weight: none and every item with a free place for the first bidder, then
-/// likewise for the rest.
-pub fn brute_force(weights: &[Vec<u64>], counts: &[u64]) -> u64 {
-    fn rest(weights: &[Vec<u64>], free: &mut [u64]) -> u64 {
-        let Some((first, others)) = weights.split_first() else {
-            return 0;
-        };
-        let mut best = rest(others, free);
-        for item in 0..free.len() {
-            if free[item] > 0 && first[item] != 0 {
-                free[item] -= 1;
-                best = best.max(first[item] + rest(others, free));
-                free[item] += 1;
-            }
-        }
-        best
-    }
-    rest(weights, &mut counts.to_vec())
 }

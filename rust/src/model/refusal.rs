@@ -1,4 +1,4 @@
-//! Refusals, by the words of document 01's table and of R-6 in document 02.
+//! Refusals, by the words of document 01's table and of in document 02.
 
 #[derive(Clone, Copy, Debug, PartialEq, Eq)]
 pub struct Refusal {
@@ -22,6 +22,7 @@ pub const SPOILT: u64 = 13;
 pub const LINE: u64 = 14;
 pub const LONG: u64 = 15;
 pub const PLACES: u64 = 16;
+pub const LARGE: u64 = 17;
 
 pub fn refuse<T>(number: u64, place: u64) -> Result<T, Refusal> {
     Err(Refusal { number, place })
