@@ -3,7 +3,7 @@
 //!
 //! `model` says what every call answers, simply and slowly; `page` writes and
 //! reads the page of R-2; `fast` is a plain Rust program for the same text, the
-//! yardstick for speed; `gen` makes cases; `ffi` calls the proved one; `both` calls
+//! yardstick for speed; `simple` is a straightforward one, the yardstick of R-10; `gen` makes cases; `ffi` calls the proved one; `both` calls
 //! the proved one and the model and compares; `laws` are those of every sound
 //! board; `ties` bids one by one and counts what stood equal; `orders` withdraws
 //! so, in R-3's order and in others; `raises` is what such a bid comes to, as R-7 has it
@@ -28,6 +28,7 @@ pub mod plans;
 pub mod program;
 pub mod raises;
 pub mod rng;
+pub mod simple;
 pub mod slides;
 pub mod ties;
 pub mod trial;

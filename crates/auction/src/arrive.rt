@@ -4,6 +4,7 @@ use crate::edges::edges_verdict;
 use crate::edges::gather;
 use crate::edges::pairs;
 use crate::edges::row_of;
+use bidding::floors::file_floors;
 use bidding::moves::enter;
 use board::record::Auction;
 use board::record::Edge;
@@ -19,7 +20,9 @@ use supply::spread::spread_row;
 ghost use mathlib.Core.Path.{_≡_};
 ghost use Rattle.supply.specs.Board.{board};
 ghost use Rattle.supply.specs.Sound.{Sound};
+ghost use Rattle.board.specs.Cells.{scaledAt};
 ghost use Rattle.bidding.specs.Rule.{done};
+ghost use Rattle.bidding.specs.Floors.{Floored};
 ghost use Rattle.auction.specs.Edges.{bufferEdges};
 ghost use Rattle.auction.specs.Arrive.{arrival, arriveOf};
 
@@ -41,16 +44,19 @@ pub struct ArrivalIn {
     pub answer: Arrived,
 }
 
-// The arrival at a sound board, by its parts.
+// The arrival at a sound board, by its parts; the floors of its prices are lent with them.
 pub fn arrive_in(
     items: Items,
     market: Market,
     weights: &mut [u32; Auction::MAX_CELLS],
     state: State,
+    floors: &mut [u32; Auction::MAX_ITEMS],
+    pence: &mut [u32; Auction::MAX_ITEMS],
     edges: EdgeBuffer,
 ) -> ArrivalIn
-    requires { ⌜ Sound (board items market (now weights) state) ⌝ }
-    ensures { λ r. ⌜ done (arrival (board items (r .market) (now (weights .exit)) (r .state)) (r .answer)) ≡ arriveOf (board items market (now (weights .entry)) state) (bufferEdges edges) ⌝ }
+    requires { ⌜ Sound (board items market (now weights) state) × Floored market (scaledAt (state .price)) (now floors) (now pence) ⌝ }
+    ensures { λ r. ⌜ (done (arrival (board items (r .market) (now (weights .exit)) (r .state)) (r .answer)) ≡ arriveOf (board items market (now (weights .entry)) state) (bufferEdges edges)) ×
+        Floored (r .market) (scaledAt (r .state .price)) (now (floors .exit)) (now (pence .exit)) ⌝ }
 {
     if market.arrived >= Auction::MAX_BIDDERS as u64 {
         return ArrivalIn {
@@ -72,7 +78,7 @@ pub fn arrive_in(
     let Verdict::Refused(refusal) = verdict else {
         let row = row_of(&edges.items, &edges.weights, count);
         let spread = spread_row(items, row);
-        let moved = enter(market, weights, state, spread);
+        let moved = enter(market, weights, state, floors, pence, spread);
         let after = moved.market;
         let settled = moved.state;
         return ArrivalIn {
@@ -101,7 +107,19 @@ pub fn arrive_buffer(mut board: Board, edges: EdgeBuffer) -> Arrival
             answer: Arrived::Refused(Refusal::Spoilt),
         };
     }
-    let end = arrive_in(items, market, &mut board.weights, state, edges);
+    let price = state.price;
+    let mut floors = [0u32; Auction::MAX_ITEMS];
+    let mut pence = [0u32; Auction::MAX_ITEMS];
+    file_floors(market, price, &mut floors, &mut pence);
+    let end = arrive_in(
+        items,
+        market,
+        &mut board.weights,
+        state,
+        &mut floors,
+        &mut pence,
+        edges,
+    );
     let after = end.market;
     board.market = after;
     let settled = end.state;

@@ -1,5 +1,6 @@
 // Withdraw: items leave the live edges, and then those who held one bid.
 use crate::items::items_verdict;
+use bidding::floors::file_floors;
 use bidding::moves::release;
 use board::record::Auction;
 use board::record::Market;
@@ -14,7 +15,9 @@ use supply::spread::spread_items;
 ghost use mathlib.Core.Path.{_≡_};
 ghost use Rattle.supply.specs.Board.{board};
 ghost use Rattle.supply.specs.Sound.{Sound};
+ghost use Rattle.board.specs.Cells.{scaledAt};
 ghost use Rattle.bidding.specs.Rule.{done};
+ghost use Rattle.bidding.specs.Floors.{Floored};
 ghost use Rattle.auction.specs.Withdraw.{withdrawal, withdrawOf};
 
 // What a withdrawal answers: the number of bids made, or the refusal.
@@ -41,11 +44,14 @@ pub fn withdraw_in(
     market: Market,
     weights: &[u32; Auction::MAX_CELLS],
     state: State,
+    floors: &mut [u32; Auction::MAX_ITEMS],
+    pence: &mut [u32; Auction::MAX_ITEMS],
     items: &[u64],
 ) -> WithdrawalIn
-    requires { ⌜ Sound (board known market (now weights) state) ⌝ }
-    ensures { λ r. ⌜ done (withdrawal (board known (r .market) (now (weights .entry)) (r .state)) (r .answer)) ≡
-        withdrawOf (board known market (now (weights .entry)) state) (now (items .entry)) ⌝ }
+    requires { ⌜ Sound (board known market (now weights) state) × Floored market (scaledAt (state .price)) (now floors) (now pence) ⌝ }
+    ensures { λ r. ⌜ (done (withdrawal (board known (r .market) (now (weights .entry)) (r .state)) (r .answer)) ≡
+        withdrawOf (board known market (now (weights .entry)) state) (now (items .entry))) ×
+        Floored (r .market) (scaledAt (r .state .price)) (now (floors .exit)) (now (pence .exit)) ⌝ }
 {
     let starts = starts_of(known);
     let verdict = items_verdict(known, &starts, items, &market.withdrawn);
@@ -53,7 +59,7 @@ pub fn withdraw_in(
         let places = spread_items(known, &starts, items);
         let numbers: &[u64] = &places.numbers;
         let count = places.count;
-        let moved = release(market, weights, state, &numbers[0..count]);
+        let moved = release(market, weights, state, floors, pence, &numbers[0..count]);
         let after = moved.market;
         let settled = moved.state;
         return WithdrawalIn {
@@ -82,7 +88,19 @@ pub fn withdraw(mut board: Board, items: &[u64]) -> Withdrawal
             answer: Withdrawn::Refused(Refusal::Spoilt),
         };
     }
-    let end = withdraw_in(known, market, &board.weights, state, items);
+    let price = state.price;
+    let mut floors = [0u32; Auction::MAX_ITEMS];
+    let mut pence = [0u32; Auction::MAX_ITEMS];
+    file_floors(market, price, &mut floors, &mut pence);
+    let end = withdraw_in(
+        known,
+        market,
+        &board.weights,
+        state,
+        &mut floors,
+        &mut pence,
+        items,
+    );
     let after = end.market;
     board.market = after;
     let settled = end.state;

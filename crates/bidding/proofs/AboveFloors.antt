@@ -2,8 +2,8 @@
 use mathlib.Core.Path.{_≡_, refl, ap}
 use mathlib.Core.Bool.{Bool, true, false, cond}
 use mathlib.Core.List.{List}
-use Prim.Native.Nat.{ℕ, _+_, _-_, _*_, _/_, _<_, _≤_}
-use native.Mathlib.Nat.{div-lt-iff-lt-mul}
+use Prim.Native.Nat.{ℕ, suc, _+_, _-_, _*_, _/_, _<_, _≤_, min}
+use native.Mathlib.Nat.{div-lt-iff-lt-mul, le-div-iff-mul-le, div-mul-le-self, mul-le-mul}
 use native.Mathlib.Omega.{arith}
 use lib.ListN.{getD}
 use lib.Dec.{ltb}
@@ -13,9 +13,9 @@ use Rattle.duality.proofs.Decide.{same-test, reword, lt-decides}
 use Rattle.board.specs.Limits.{maxWeight}
 use Rattle.board.specs.Cells.{flagAt}
 use Rattle.board.specs.Live.{liveIn}
-use Rattle.bidding.specs.Floors.{floorOf, Floors, Weighs}
+use Rattle.bidding.specs.Floors.{floorOf, penceOf, Floors, Weighs}
 use Rattle.bidding.specs.Slides.{testOpen}
-use Rattle.bidding.specs.SlideLaws.{OpenAboveFloor}
+use Rattle.bidding.specs.SlideLaws.{OpenAboveFloor, RoundedUp}
 
 pub open-above-floor : OpenAboveFloor
 open-above-floor p q w y l h =
@@ -25,11 +25,33 @@ open-above-floor p q w y l h =
     (λ f. let below : y < w * (q - p) = d .0 (omega arith) in omega arith, λ o. let below : y / (q - p) < w = d .1 (omega arith) in omega arith)
 
 -- A weight that is not over a floor, and one that is
-pub at-most-floor : (w f : ℕ) → w ≤ f → 0 ≡ cond (ltb f w) w 0
-at-most-floor w f l = rw (le-ltb f w l) refl
+pub at-most-floor : (w f y : ℕ) → w ≤ f → 0 ≡ cond (ltb f w) w 0 - y
+at-most-floor w f y l = rw (le-ltb f w l) (omega arith)
 
-pub over-floor : (w f : ℕ) → f < w → w ≡ cond (ltb f w) w 0
-over-floor w f l = rw (lt-ltb f w l) refl
+pub over-floor : (w f y : ℕ) → f < w → w - y ≡ cond (ltb f w) w 0 - y
+over-floor w f y l = rw (lt-ltb f w l) refl
+
+-- A price in whole pence is no more than the floor, live or not
+pub pence-below : (p q y : ℕ) (t : Bool) → p < q → penceOf q y ≤ cond t maxWeight (floorOf p q y)
+pence-below p q y true l = omega arith
+pence-below p q y false l =
+    let less : (y / q) * (q - p) ≤ (y / q) * q = mul-le-mul {n₂ = y / q} {m₂ = q} (omega arith) (omega arith) in
+    let d : y / q ≤ y / (q - p) = le-div-iff-mul-le {k = q - p} {x = y / q} {y = y} (omega arith) .1 (omega (arith, less, div-mul-le-self y q)) in
+    omega arith
+
+-- d is the price y in whole pence, and s + 1 what is left of the weight
+round-by : (q d s y : ℕ) → d * q ≤ y → y < (d + 1) * q → (q * s < utility q (d + (s + 1)) y) × (utility q (d + (s + 1)) y ≤ q * (s + 1)) × (0 < s + 1)
+round-by q d s y a b = (omega arith, omega arith, omega arith)
+
+pub rounded-up : RoundedUp
+rounded-up q w y lq lw l =
+    let d : y / q < w = div-lt-iff-lt-mul {k = q} {x = y} {y = w} lq .1 (omega arith) in
+    let m : min (y / q) maxWeight ≡ y / q = omega arith in
+    let s : w - y / q ≡ w - y / q - 1 + 1 = omega arith in
+    let e : y / q + (w - y / q - 1 + 1) ≡ w = omega arith in
+    let r = round-by q (y / q) (w - y / q - 1) y (div-mul-le-self y q) (div-lt-iff-lt-mul {k = q} {x = y} {y = y / q + 1} lq .0 (omega arith)) in
+    let t : (q * (w - y / q - 1) < utility q w y) × (utility q w y ≤ q * (w - y / q - 1 + 1)) × (0 < w - y / q - 1 + 1) = rw e at r in
+    rw m (t .0, omega (arith, t .1, ap (λ x. q * x) s), omega (arith, s))
 
 -- The test by the floor and that by the utility
 same-open : (p q w y : ℕ) → p < q → w ≤ maxWeight → ltb (floorOf p q y) w ≡ ltb (p * w) (utility q w y)

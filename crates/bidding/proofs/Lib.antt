@@ -13,6 +13,7 @@ pub mod Offers
 pub mod Placed
 pub mod Potentials
 pub mod Rolls
+pub mod Rating
 pub mod Running
 pub mod Slides
 pub mod Starts

@@ -1,5 +1,5 @@
 -- The leader of step 2, after an edge has been offered to it. An edge of weight w at price y has a utility over the bar where y + bar < q × w.
-use mathlib.Core.Path.{_≡_, refl, sym, _∙_}
+use mathlib.Core.Path.{_≡_, refl, sym, ap, _∙_}
 use mathlib.Core.Bool.{Bool, true, false, cond, _&&_, _||_}
 use Prim.Native.Nat.{ℕ, zero, suc, _+_, _-_, _*_, _<_, _≤_, max}
 use native.Mathlib.Nat.{mul-le-mul}
@@ -17,7 +17,7 @@ use Rattle.bidding.specs.declared.rule.BestEdge.{BestEdge}
 use Rattle.bidding.specs.declared.rule.BestEdge.the-variants.{At, Nothing}
 use Rattle.bidding.specs.Rule.{beats, ranked}
 use Rattle.bidding.specs.Slides.{takeOf, pickOf}
-use Rattle.bidding.specs.Leader.{secondIn, edgeOf, LeaderFits, Offered}
+use Rattle.bidding.specs.Leader.{secondIn, edgeOf, LeaderFits, Rounds, Offered, Rates, ratedWeight}
 
 pub leads-none : LeaderFits 0 1 0
 leads-none = record { low = λ e. (refl, refl); led = λ l. absurd (omega arith); under = omega arith; fits = omega arith }
@@ -71,6 +71,35 @@ take-below q k w y j v g bar h o l = go (ltb 0 (utility q w y)) refl
     go true e = stays (eqb (v .0) 0) refl (ltb-true 0 (utility q w y) e)
     go false e = refl
 
+-- An edge that is rated at less than `least` is passed over
+pub take-skipped : (q k t w y x j : ℕ) (v : Pence) (g : Scaled) (bar own least : ℕ) → LeaderFits (v .0) (g .0) bar → Rounds q (g .0) bar own least → Rates q t w y x →
+    t < least → edgeOf j v g bar ≡ takeOf q k (ratedWeight t w) y (edgeOf j v g bar)
+take-skipped q k t w y x j v g bar own least h r m l = go (eqb t 0) refl
+  where
+    go : (b : Bool) → eqb t 0 ≡ b → edgeOf j v g bar ≡ takeOf q k (cond b 0 w) y (edgeOf j v g bar)
+    go true e = take-below q k 0 y j v g bar h (λ z. absurd (omega arith)) (omega arith)
+    go false e =
+        let d = m (omega (arith, eqb-false t 0 e)) .0 in
+        let less : q * t ≤ q * (least - 1) = mul-le-mul {n₂ = q} {m₂ = least - 1} (omega arith) (omega arith) in
+        take-below q k w y j v g bar h (λ _. d .offered) (omega (arith, less, d .within, r .behind))
+
+-- The weight of an edge that is rated
+pub rated-weight : (t w : ℕ) → 0 < t → ratedWeight t w ≡ w
+rated-weight t w l = rw (ne-eqb t 0 (λ e. omega arith)) refl
+
+pub rated-none : (t w : ℕ) → t ≡ 0 → ratedWeight t w ≡ 0
+rated-none t w e = rw (eq-eqb t 0 e) refl
+
+-- The leader and the second in pence, rounded up, after an edge that is above the bar
+pub rounds-new : (q u g bar own least new : ℕ) → 0 < new → q * (new - 1) < u → Rounds q g bar own least → Rounds q u (g - 1) new own
+rounds-new q u g bar own least new l h r = record { leads = h; behind = omega (arith, r .leads); some = l; more = r .some }
+
+pub rounds-kept : (q u g bar own least new : ℕ) → 0 < new → q * (new - 1) < u → Rounds q g bar own least → Rounds q g (u - 1) own new
+rounds-kept q u g bar own least new l h r = record { leads = r .leads; behind = omega arith; some = r .some; more = l }
+
+pub rounds-none : (q : ℕ) → Rounds q 1 0 1 1
+rounds-none q = let z : q * 0 ≡ 0 = omega arith in record { leads = omega (arith, z); behind = omega (arith, z); some = omega arith; more = omega arith }
+
 -- Otherwise it is ranked
 pub take-above : (q k w y bar u : ℕ) (best : BestEdge) → y + bar < q * w → u ≡ utility q w y → ranked k w u best ≡ takeOf q k w y best
 unfolding takeOf
@@ -82,6 +111,10 @@ above-large q w y bar u o l is = let h = has-weight q w y bar l in (h, omega (ar
 
 pub above-small : (q w y bar u : ℕ) → q ≤ maxQ → w < wordLimit → u ≡ utility q w y → u ≤ maxQ * wordLimit
 above-small q w y bar u hq hw is = let top : q * w ≤ maxQ * wordLimit = mul-le-mul {m₂ = wordLimit} hq (omega arith) in omega arith
+
+-- What is known of its price
+pub price-small : (q w y : ℕ) → q ≤ maxQ → w < wordLimit → y + 1 < q * w → y ≤ maxQ * wordLimit
+price-small q w y hq hw l = let top : q * w ≤ maxQ * wordLimit = mul-le-mul {m₂ = wordLimit} hq (omega arith) in omega arith
 
 -- Beside a leader at item j, of weight v, utility g and that bar, an edge of weight w and utility u, which is over the bar
 module _ (k w u j : ℕ) (v : Pence) (g : Scaled) (bar : ℕ) (h : LeaderFits (v .0) (g .0) bar) (hw : 0 < w) (hu : 1 < u) (over : bar < u) where
@@ -133,5 +166,17 @@ pub pick-next : (q : ℕ) (w y : ℕ → ℕ) (k : ℕ) (best new : BestEdge) �
 unfolding pickOf
 pick-next q w y k best new e g = rw add-one (cc)
 
-pub pick-end : (q : ℕ) (w y : ℕ → ℕ) (k n : ℕ) (best : BestEdge) → k ≡ n → best ≡ pickOf q w y k → best ≡ pickOf q w y n
-pick-end q w y k n best e h = rw e at h
+-- Edges without a weight change nothing
+take-none : (q k y : ℕ) (best : BestEdge) → takeOf q k 0 y best ≡ best
+unfolding takeOf
+take-none q k y best = rw (le-ltb 0 (utility q 0 y) (omega arith)) refl
+
+pick-past : (q : ℕ) (w y : ℕ → ℕ) (n d : ℕ) → ((k : ℕ) → n ≤ k → w k ≡ 0) → pickOf q w y (n + d) ≡ pickOf q w y n
+unfolding pickOf
+pick-past q w y n zero z = let e : n + 0 ≡ n = omega arith in rw e refl
+pick-past q w y n (suc d) z =
+    let e : n + suc d ≡ suc (n + d) = omega arith in
+    rw (e, z (n + d) (omega arith), pick-past q w y n d z) (take-none q (n + d) (y (n + d)) (pickOf q w y n))
+
+pub pick-ends : (q : ℕ) (w y : ℕ → ℕ) (k n : ℕ) (best : BestEdge) → n ≤ k → ((j : ℕ) → n ≤ j → w j ≡ 0) → best ≡ pickOf q w y k → best ≡ pickOf q w y n
+pick-ends q w y k n best l z h = let e : k ≡ n + (k - n) = omega arith in h ∙ ap (pickOf q w y) e ∙ pick-past q w y n (k - n) z

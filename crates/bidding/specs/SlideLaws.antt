@@ -2,10 +2,10 @@
 -- moves as the rule defines them. These hold on every board, sound or not, and so "at every bid of every call on a sound board" (document 02, R-5).
 use mathlib.Core.Path.{_≡_}
 use mathlib.Core.List.{List}
-use Prim.Native.Nat.{ℕ, suc, _+_, _-_, _<_, _≤_}
+use Prim.Native.Nat.{ℕ, suc, _+_, _-_, _*_, _<_, _≤_}
 use lib.ListN.{set}
 use Rattle.duality.specs.Lists.{cells}
-use Rattle.duality.specs.Steps.{Open}
+use Rattle.duality.specs.Steps.{utility, Open}
 use Rattle.board.specs.declared.record.Auction.{Auction}
 use Rattle.board.specs.declared.record.Market.{Market}
 use Rattle.board.specs.declared.record.Holder.the-variants.{Held, Free}
@@ -21,7 +21,7 @@ use Rattle.bidding.specs.RuleLaws.{Choice}
 use Rattle.bidding.specs.Moves.{arrivedOf}
 use Rattle.bidding.specs.Withdrawals.{withdrawnOf}
 use Rattle.bidding.specs.Book.{stateOf}
-use Rattle.bidding.specs.Floors.{floorOf}
+use Rattle.bidding.specs.Floors.{floorOf, penceOf}
 use Rattle.bidding.specs.Slides.{testOpen, pickOf, priced, handedTo, gainsTo, HandedOver, handedOver, bidBySlides, bidUntilNow, settleBySlides, arrivedBySlides, withdrawnBySlides}
 
 -- ---- Steps 1 and 2
@@ -45,6 +45,11 @@ TestThenPick = (p q m : ℕ) (w y : ℕ → ℕ) → pickOf q (testOpen p q w y)
 -- An edge, of a weight within the limit, is open exactly when its weight is over the floor
 abbrev pub OpenAboveFloor : Type 0
 OpenAboveFloor = (p q w y : ℕ) → p < q → w ≤ maxWeight → (floorOf p q y < w → Open p q w y) × (Open p q w y → floorOf p q y < w)
+
+-- What is left of an open edge's weight over the price in whole pence is its utility in pence, rounded up
+abbrev pub RoundedUp : Type 0
+RoundedUp = (q w y : ℕ) → 0 < q → w ≤ maxWeight → y < q * w →
+    (q * (w - penceOf q y - 1) < utility q w y) × (utility q w y ≤ q * (w - penceOf q y)) × (0 < w - penceOf q y)
 
 -- ---- Steps 3 and 4
 

@@ -69,6 +69,14 @@ impl Slack {
         Pence(price.0 / (self.q - self.p))
     }
 
+    // So many q-ths in whole pence: divided by q, the whole part.
+    pub fn pence(self, price: Scaled) -> Pence
+        requires { ⌜ self .p < self .q ⌝ }
+        ensures { λ r. ⌜ r .0 ≡ price .0 / self .q ⌝ }
+    {
+        Pence(price.0 / self.q)
+    }
+
     // Whether q times a weight is above a price.
     pub fn exceeds(self, weight: Pence, price: Scaled) -> bool
         requires { ⌜ (self .q ≤ maxQ) × (weight .0 < wordLimit) ⌝ }

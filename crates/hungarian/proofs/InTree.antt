@@ -3,11 +3,10 @@ use mathlib.Core.Path.{_≡_, refl, sym, ap, _∙_}
 use mathlib.Core.List.{List}
 use Prim.Native.Nat.{ℕ, zero, suc, _+_, _*_, _≤_, _<_}
 use native.Mathlib.Omega.{arith}
-use Rattle.hungarian.specs.declared.tree.Tree.{Tree}
 use Rattle.board.specs.Limits.{maxItems, maxWeight}
 use Rattle.hungarian.specs.Weights.{matrixAt}
 use Rattle.hungarian.specs.Settled.{Holds}
-use Rattle.hungarian.specs.Tree.{Visited, Unvisited, excessAt, InTree, as-root, as-holder}
+use Rattle.hungarian.specs.Tree.{Tree, Visited, Unvisited, excessAt, InTree, as-root, as-holder}
 use Rattle.hungarian.specs.Search.{Inserting, Extends}
 use Rattle.hungarian.proofs.Cells.{never}
 use Rattle.duality.proofs.Below.{one-more}

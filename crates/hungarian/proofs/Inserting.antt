@@ -6,26 +6,27 @@ use Prim.Native.Nat.{ℕ, suc, _+_, _-_, _*_, _≤_, _<_}
 use native.Mathlib.Decide.{ℕ-discrete, decLt}
 use native.Mathlib.Numerals.{add-one}
 use native.Mathlib.Omega.{arith}
-use lib.ListN.{set, length, replicate}
+use lib.ListN.{set, length, replicate, length-set, length-replicate}
 use lib.Seq.{getD-set-same, getD-set-other}
 use Rattle.duality.specs.Lists.{cells}
 use Rattle.duality.proofs.Below.{find, one-more}
-use Rattle.hungarian.specs.declared.tree.Tree.{Tree}
 use Rattle.board.specs.Limits.{maxItems, maxBidders, maxWeight}
+use Rattle.hungarian.specs.declared.tree.Front.{Front}
+use Rattle.hungarian.specs.Limits.{unreached}
 use Rattle.hungarian.specs.Weights.{matrixAt, Light}
-use Rattle.hungarian.specs.Settled.{Holds, TightEdge, Settled}
-use Rattle.hungarian.specs.Tree.{Visited, Unvisited, visitedAt, excessAt, priceNow, InTree, as-root, as-holder, TightNow, IdleNow}
+use Rattle.hungarian.specs.Settled.{Holds, TightEdge, Settled, SettledIn}
+use Rattle.hungarian.specs.Tree.{Tree, treeOf, Sized, Visited, Unvisited, visitedAt, excessAt, priceNow, InTree, as-root, as-holder, TightNow, IdleNow}
 use Rattle.hungarian.specs.Growth.{Everyone, Balanced, Sprout}
 use Rattle.hungarian.specs.Path.{Path}
 use Rattle.hungarian.specs.Search.{Inserting, BidderStart, Ended}
-use Rattle.hungarian.specs.Insertion.{Adjustable, Adjusted}
+use Rattle.hungarian.specs.Insertion.{Adjustable, Adjusted, AdjustableIn, AdjustedIn}
 use Rattle.hungarian.proofs.Cells.{getD-all, mark, never, price-visited, price-unvisited}
 use Rattle.hungarian.proofs.InTree.{all-covered, all-low, cheap, held-visited}
 use Rattle.hungarian.proofs.Visiting.{path-from}
 use Rattle.hungarian.proofs.Shifting.{Shifted, shifted}
 
 -- Before any bidder
-pub none-settled : (w : ℕ → ℕ → ℕ) → Settled w (cells (replicate maxItems 0)) (cells (replicate maxBidders 0)) (cells (replicate maxItems 0)) 0
+none-settled : (w : ℕ → ℕ → ℕ) → Settled w (cells (replicate maxItems 0)) (cells (replicate maxBidders 0)) (cells (replicate maxItems 0)) 0
 none-settled w =
     record {
       held = record { known = λ k i h. absurd (nobody k i h); once = λ j k i h. absurd (nobody j i h) };
@@ -39,10 +40,20 @@ none-settled w =
     nobody : (k i : ℕ) → Holds (cells (replicate maxItems 0)) k i → ⊥
     nobody k i h = omega (arith, getD-all {A = ℕ} maxItems k 0)
 
+pub none-in : (weights : List ℕ) → SettledIn weights (replicate maxItems 0) (replicate maxBidders 0) (replicate maxItems 0) 0
+none-in weights =
+    record {
+      prices = length-replicate {A = ℕ} maxItems 0;
+      gains = length-replicate {A = ℕ} maxBidders 0;
+      holders = length-replicate {A = ℕ} maxItems 0;
+      settled = none-settled (matrixAt weights);
+    }
+
 -- A bidder comes in with a gain at the limit
-pub entered : (weights price gain holder : List ℕ) (n : ℕ) → Light weights → n < maxBidders → length gain ≡ maxBidders
-    → Settled (matrixAt weights) (cells price) (cells gain) (cells holder) n → Inserting weights (cells price) (cells (set gain n maxWeight)) (cells holder) n
-entered weights price gain holder n light near long s =
+entered : {weights price gain holder : List ℕ} {n : ℕ} → Light weights → n < maxBidders → SettledIn weights price gain holder n
+    → Inserting weights (cells price) (cells (set gain n maxWeight)) (cells holder) n
+entered {gain = gain} {n = n} light near q =
+    let s = q .settled in
     record {
       light = light;
       near = near;
@@ -59,16 +70,17 @@ entered weights price gain holder n light near long s =
     }
   where
     own : cells (set gain n maxWeight) n ≡ maxWeight
-    own = getD-set-same gain n maxWeight 0 (omega arith)
+    own = getD-set-same gain n maxWeight 0 (omega (arith, q .gains))
 
     other : (i : ℕ) → i < n → cells (set gain n maxWeight) i ≡ cells gain i
     other i l = getD-set-other gain n i maxWeight 0 (λ e. absurd (omega arith))
 
 -- Its tree is its root alone
-sprouted : (weights price gain holder : List ℕ) (n : ℕ) (t : Tree) → Sprout n holder t → cells gain n ≡ maxWeight
+sprouted : (weights price gain holder : List ℕ) (n : ℕ) (t : Tree) → Sized t → Sprout n holder t → cells gain n ≡ maxWeight
     → Inserting weights (cells price) (cells gain) (cells holder) n → BidderStart weights price gain n t
-sprouted weights price gain holder n t p full s =
+sprouted weights price gain holder n t sized p full s =
     record {
+      sized = sized;
       inserting = subst (λ (l : List ℕ). Inserting weights (cells price) (cells gain) (cells l) (t .root)) (sym (p .holder))
           (subst (λ (i : ℕ). Inserting weights (cells price) (cells gain) (cells holder) i) (sym (p .root)) s);
       reached = as-root (sym (p .root)) (omega (arith, p .fall));
@@ -93,10 +105,14 @@ sprouted weights price gain holder n t p full s =
     alone i level ne (as-holder k v h f) = never v (p .fresh k)
 
 -- Both together
-pub first-tree : (weights price gain holder : List ℕ) (n : ℕ) (t : Tree) → Light weights → n < maxBidders → length gain ≡ maxBidders
-    → Settled (matrixAt weights) (cells price) (cells gain) (cells holder) n → Sprout n holder t → BidderStart weights price (set gain n maxWeight) n t
-first-tree weights price gain holder n t light near long s p =
-    sprouted weights price (set gain n maxWeight) holder n t p (getD-set-same gain n maxWeight 0 (omega arith)) (entered weights price gain holder n light near long s)
+pub first-tree : {weights price gain holder parent : List ℕ} {n : ℕ} (f : Front) → Light weights → n < maxBidders → SettledIn weights price gain holder n
+    → length parent ≡ maxItems → Sprout n holder (treeOf holder (replicate maxItems 0) (replicate maxItems unreached) parent f)
+    → BidderStart weights price (set gain n maxWeight) n (treeOf holder (replicate maxItems 0) (replicate maxItems unreached) parent f)
+first-tree {weights} {price} {gain} {holder} {parent} {n} f light near q long p =
+    sprouted weights price (set gain n maxWeight) holder n _ sized p (getD-set-same gain n maxWeight 0 (omega (arith, q .gains))) (entered light near q)
+  where
+    sized : Sized (treeOf holder (replicate maxItems 0) (replicate maxItems unreached) parent f)
+    sized = record { holder = q .holders; visited = length-replicate {A = ℕ} maxItems 0; excess = length-replicate {A = ℕ} maxItems unreached; parent = long }
 
 -- The tree is exhausted
 module _ {weights : List ℕ} {price gain holder : ℕ → ℕ} {r : Tree} (s : Inserting weights price gain holder (r .root))
@@ -104,7 +120,7 @@ module _ {weights : List ℕ} {price gain holder : ℕ → ℕ} {r : Tree} (s : 
   visited-near : (k : ℕ) → Visited r k → k < maxItems
   visited-near k v = let (i, h) = b .held k v in s .settled .held .known k i h .0
 
-  pub adjustable : Adjustable price gain holder r
+  adjustable : Adjustable price gain holder (visitedAt r) (excessAt r) (r .fall)
   adjustable =
       record {
         once = record { known = λ k i h. (s .settled .held .known k i h .0, omega (arith, s .settled .held .known k i h .1, s .near)); once = s .settled .held .once };
@@ -135,7 +151,7 @@ module _ {weights : List ℕ} {price gain holder : ℕ → ℕ} {r : Tree} (s : 
       neither ne none (as-root e f) = ne e
       neither ne none (as-holder k v h f) = none k (visited-near k v) (v, h)
 
-  module _ {price′ gain₁ gain′ : ℕ → ℕ} (a : Adjusted price gain holder r price′ gain₁ maxItems)
+  module _ {price′ gain₁ gain′ : ℕ → ℕ} (a : Adjusted price gain holder (visitedAt r) (excessAt r) (r .fall) price′ gain₁ maxItems)
       (own : gain′ (r .root) ≡ gain₁ (r .root) - r .fall) (other : (i : ℕ) → i ≢ r .root → gain′ i ≡ gain₁ i) where
     root-kept : gain₁ (r .root) ≡ gain (r .root)
     root-kept = a .others (r .root) (λ k l v h. absurd (omega (arith, s .settled .held .known k (r .root) h .1)))
@@ -233,8 +249,14 @@ module _ {weights : List ℕ} {price gain holder : ℕ → ℕ} {r : Tree} (s : 
         free k z = ⊎-elim (λ v. absurd (let (i, h) = b .held k v in omega arith)) (λ u. u) (mark (visitedAt r k))
 
 -- The whole insertion, over lists: from a tree of the root alone to an exhausted one
-module _ {weights price gain holder : List ℕ} {n : ℕ} {t r : Tree} (s : Inserting weights (cells price) (cells gain) (cells holder) n)
-    (p : Sprout n holder t) (d : Ended weights price gain t r) where
+module _ {weights price before holder : List ℕ} {n : ℕ} {t r : Tree} (light : Light weights) (near : n < maxBidders)
+    (q : SettledIn weights price before holder n) (p : Sprout n holder t) (d : Ended weights price (set before n maxWeight) t r) where
+  abbrev gain : List ℕ
+  gain = set before n maxWeight
+
+  s : Inserting weights (cells price) (cells gain) (cells holder) n
+  s = entered light near q
+
   root-is : r .root ≡ n
   root-is = d .extends .root ∙ p .root
 
@@ -244,8 +266,8 @@ module _ {weights price gain holder : List ℕ} {n : ℕ} {t r : Tree} (s : Inse
   exhausted : Balanced (matrixAt weights) (cells price) (cells gain) (cells holder) r Everyone
   exhausted = subst (λ (l : List ℕ). Balanced (matrixAt weights) (cells price) (cells gain) (cells l) r Everyone) (p .holder) (d .balanced)
 
-  pub tree-adjustable : Adjustable (cells price) (cells gain) (cells holder) r
-  tree-adjustable = adjustable at-root exhausted (d .most)
+  pub tree-adjustable : AdjustableIn price (set before n maxWeight) holder (r .visited) (r .excess) (r .fall)
+  tree-adjustable = record { prices = q .prices; gains = length-set before n maxWeight ∙ q .gains; able = adjustable at-root exhausted (d .most) }
 
   -- The path starts at the root
   starts : r .mover ≡ r .root
@@ -260,20 +282,27 @@ module _ {weights price gain holder : List ℕ} {n : ℕ} {t r : Tree} (s : Inse
       subst (λ (l : List ℕ). Path (TightNow (matrixAt weights) (cells price) (cells gain) (cells l) r) (IdleNow (cells gain) (cells l) r) (cells l) (r .root) (cells (r .holder)))
       (p .holder) (path-from starts (d .path))
 
-  module _ (price′ gain₁ : List ℕ) (a : Adjusted (cells price) (cells gain) (cells holder) r (cells price′) (cells gain₁) maxItems) where
+  module _ {price′ gain₁ : List ℕ} (a : AdjustedIn price (set before n maxWeight) holder (r .visited) (r .excess) (r .fall) price′ gain₁) where
     pub root-room : r .fall ≤ cells gain₁ n
     root-room =
         omega (
           arith,
-          a .others n (λ k l v h. absurd (omega (arith, s .settled .held .known k n h .1))),
+          a .adjusted .others n (λ k l v h. absurd (omega (arith, s .settled .held .known k n h .1))),
           exhausted .deep n (cells gain n) refl (as-root (sym root-is) refl),
         )
 
-    pub inserted : length gain₁ ≡ maxBidders
-        → Settled (matrixAt weights) (cells price′) (cells (set gain₁ n (cells gain₁ n - r .fall))) (cells (r .holder)) (n + 1)
-    inserted long =
-        subst (λ (i : ℕ). Settled (matrixAt weights) (cells price′) (cells (set gain₁ n (cells gain₁ n - r .fall))) (cells (r .holder)) i) (ap suc root-is ∙ sym (add-one n))
-        (all-settled at-root exhausted (d .most) a
-        (rw root-is (getD-set-same gain₁ n (cells gain₁ n - r .fall) 0 (omega (arith, s .near))))
-        (λ i ne. getD-set-other gain₁ n i (cells gain₁ n - r .fall) 0 (λ e. ne (e ∙ sym root-is)))
-        (cells (r .holder)) path)
+    long : length gain₁ ≡ maxBidders
+    long = a .gains ∙ length-set before n maxWeight ∙ q .gains
+
+    pub inserted : SettledIn weights price′ (set gain₁ n (cells gain₁ n - r .fall)) (r .holder) (n + 1)
+    inserted =
+        record {
+          prices = a .prices ∙ q .prices;
+          gains = length-set gain₁ n _ ∙ long;
+          holders = d .long ∙ ap length (p .holder) ∙ q .holders;
+          settled = subst (λ (i : ℕ). Settled (matrixAt weights) (cells price′) (cells (set gain₁ n (cells gain₁ n - r .fall))) (cells (r .holder)) i) (ap suc root-is ∙ sym (add-one n))
+              (all-settled at-root exhausted (d .most) (a .adjusted)
+              (rw root-is (getD-set-same gain₁ n (cells gain₁ n - r .fall) 0 (omega (arith, near, long))))
+              (λ i ne. getD-set-other gain₁ n i (cells gain₁ n - r .fall) 0 (λ e. ne (e ∙ sym root-is)))
+              (cells (r .holder)) path);
+        }

@@ -5,6 +5,7 @@ pub mod Growing
 pub mod Visiting
 pub mod Widening
 pub mod Shifting
+pub mod ItemsLeft
 pub mod Relaxing
 pub mod Adjusting
 pub mod Inserting

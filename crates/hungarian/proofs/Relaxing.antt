@@ -1,181 +1,157 @@
--- The pass over the items in which a bidder's edges are looked at.
+-- The pass over the items left when a bidder's edges are looked at.
 use mathlib.Core.Path.{_≡_, refl, sym, ap, _∙_}
+use mathlib.Core.Bool.{Bool, true, false}
 use mathlib.Core.List.{List}
 use mathlib.Core.Logic.{_≢_, _⊎_, inl, inr, ⊎-elim, by-cases}
 use Prim.Native.Nat.{ℕ, _+_, _-_, _≤_, _<_}
-use native.Mathlib.Nat.{le-antisymm}
-use native.Mathlib.Decide.{decLt}
+use native.Mathlib.Decide.{ℕ-discrete, decLt}
 use native.Mathlib.Omega.{arith}
 use borrow.Author.Count.{below-more}
 use lib.ListN.{set, length, length-set}
 use lib.Seq.{getD-set-same, getD-set-other}
-use Rattle.hungarian.specs.declared.tree.Tree.{Tree}
+use Rattle.duality.specs.Lists.{cells}
 use Rattle.board.specs.Limits.{maxItems}
-use Rattle.hungarian.specs.Tree.{Visited, Unvisited, visitedAt, excessAt, parentAt}
-use Rattle.hungarian.specs.Reach.{Picks, Lesser, Relaxed, Looked}
-use Rattle.hungarian.proofs.Cells.{never}
+use Rattle.board.specs.Cells.{flagAt}
+use Rattle.hungarian.specs.declared.tree.Front.{Front}
+use Rattle.hungarian.specs.Tree.{Remaining}
+use Rattle.hungarian.specs.Reach.{Picks, Lesser, RelaxedAt, Relaxed, Least, ItemList, Swept, ItemAt, Dear}
+use Rattle.hungarian.proofs.Cells.{mark, never}
 
--- A tree with other excesses and parents
-abbrev pub carrying : Tree → List ℕ → List ℕ → Tree
-carrying t excess parent =
+-- An item gets the lesser excess, or keeps what it has
+pub relaxed-less : {k own bidder : ℕ} {excess parent : List ℕ} → k < length excess → k < length parent → own < cells excess k →
+    RelaxedAt k own bidder excess parent (set excess k own) (set parent k bidder)
+relaxed-less {k} {own} {bidder} {excess} {parent} x y l =
     record {
-      root = t .root;
-      holder = t .holder;
-      visited = t .visited;
-      excess = excess;
-      parent = parent;
-      low = t .low;
-      lowest = t .lowest;
-      fall = t .fall;
-      next = t .next;
-      mover = t .mover;
+      long = length-set excess k own;
+      long₂ = length-set parent k bidder;
+      here = ((λ _. getD-set-same excess k own 0 x, λ h. absurd (omega arith)), (λ _. getD-set-same parent k bidder 0 y, λ h. absurd (omega arith)));
+      others = λ j ne. (getD-set-other excess k j own 0 ne, getD-set-other parent k j bidder 0 ne);
     }
 
--- After n items: excess and parent of the first n are relaxed, and all else is as it was
-pub record Passing (w : ℕ → ℕ → ℕ) (price : ℕ → ℕ) (bidder level : ℕ) (t r : Tree) (next fall n : ℕ) : Type 0 where
-  pub near : n ≤ maxItems
-  pub long : length (r .excess) ≡ maxItems
-  pub long₂ : length (r .parent) ≡ maxItems
-  pub same : r ≡ carrying t (r .excess) (r .parent)
-  pub relaxed : Relaxed w price bidder level (visitedAt t) (excessAt t) (parentAt t) (excessAt r) (parentAt r) (t .low) next fall n
-  pub further : (k : ℕ) → n ≤ k → (excessAt r k ≡ excessAt t k) × (parentAt r k ≡ parentAt t k)
-
-pub pass-none : {w : ℕ → ℕ → ℕ} {price : ℕ → ℕ} {bidder level : ℕ} {t : Tree} → length (t .excess) ≡ maxItems → length (t .parent) ≡ maxItems
-    → Passing w price bidder level t t maxItems (t .low) 0
-pass-none x y =
+pub relaxed-kept : {k own bidder : ℕ} {excess parent : List ℕ} → cells excess k ≤ own → RelaxedAt k own bidder excess parent excess parent
+relaxed-kept l =
     record {
-      near = omega arith;
-      long = x;
-      long₂ = y;
-      same = refl;
-      relaxed = record {
-        kept = λ k v. refl;
-        lesser = λ k l. absurd (omega arith);
-        least = λ k l. absurd (omega arith);
-        below = omega arith;
-        found = inl (refl, refl);
-      };
-      further = λ k l. (refl, refl);
+      long = refl;
+      long₂ = refl;
+      here = ((λ h. absurd (omega arith), λ _. refl), (λ h. absurd (omega arith), λ _. refl));
+      others = λ j ne. (refl, refl);
     }
 
-module _ {w : ℕ → ℕ → ℕ} {price : ℕ → ℕ} {bidder level : ℕ} {t r : Tree} {next fall n : ℕ} (p : Passing w price bidder level t r next fall n) where
-  pub was-unvisited : (k : ℕ) → Unvisited r k → Unvisited t k
-  was-unvisited k u = ap (λ x. visitedAt x k) (sym (p .same)) ∙ u
+pub swept-none : {w : ℕ → ℕ → ℕ} {price : ℕ → ℕ} {bidder level : ℕ} {left excess parent : List ℕ} (low : ℕ)
+    → Swept w price bidder level left excess parent excess parent low maxItems low 0
+swept-none low =
+    record {
+      long = refl;
+      long₂ = refl;
+      lesser = λ j l. absurd (omega arith);
+      further = λ k n. (refl, refl);
+      least = λ j l. absurd (omega arith);
+      below = omega arith;
+      found = inl (refl, refl);
+    }
 
-  -- A visited item is passed over
-  pub pass-visited : n < maxItems → Visited r n → Passing w price bidder level t r next fall (n + 1)
-  pass-visited l v =
-      let v₂ : Visited t n = ap (λ x. visitedAt x n) (sym (p .same)) ∙ v in
+-- One item more
+module _ {w : ℕ → ℕ → ℕ} {price : ℕ → ℕ} {bidder level : ℕ} {left excess₀ parent₀ excess parent excess′ parent′ : List ℕ} {low cell fall cell′ fall′ count n : ℕ}
+    (p : Swept w price bidder level left excess₀ parent₀ excess parent low cell fall n) (all : ItemList left count) (near : n < count)
+    (r : RelaxedAt (cells left n) (level + price (cells left n) - w bidder (cells left n)) bidder excess parent excess′ parent′)
+    (who : Picks (cells excess′ (cells left n)) fall n cell cell′) (what : Picks (cells excess′ (cells left n)) fall (cells excess′ (cells left n)) fall fall′) where
+  apart : (j : ℕ) → j < n → cells left j ≢ cells left n
+  apart j l e = absurd (omega (arith, all .once j n (omega arith) near e))
+
+  old : (cells excess (cells left n) ≡ cells excess₀ (cells left n)) × (cells parent (cells left n) ≡ cells parent₀ (cells left n))
+  old = p .further (cells left n) apart
+
+  less : (fall′ ≤ cells excess′ (cells left n)) × (fall′ ≤ fall)
+  less =
+      by-cases (decLt (cells excess′ (cells left n)) fall)
+      (λ x. (omega (arith, what .0 x), omega (arith, what .0 x)))
+      (λ x. let z = what .1 (omega arith) in (omega arith, omega arith))
+
+  there : (j : ℕ) → j < n → (cells excess′ (cells left j) ≡ cells excess (cells left j)) × (cells parent′ (cells left j) ≡ cells parent (cells left j))
+  there j l = r .others (cells left j) (apart j l)
+
+  abbrev Found : ℕ → ℕ → Type 0
+  Found c f = ((c ≡ maxItems) × (f ≡ low)) ⊎ ((c < n + 1) × (cells excess′ (cells left c) ≡ f) × (f < low))
+
+  found : Found cell′ fall′
+  found =
+      by-cases (decLt (cells excess′ (cells left n)) fall)
+      (λ x. rw (who .0 x, what .0 x) (inr (omega arith, refl, omega (arith, p .below))))
+      (λ x. let y : fall ≤ cells excess′ (cells left n) = omega arith in rw (who .1 y, what .1 y) (⊎-elim
+      (λ f. inl f)
+      (λ f. inr (omega (arith, f .0), there cell (f .0) .0 ∙ f .1, f .2))
+      (p .found)))
+
+  pub swept-more : Swept w price bidder level left excess₀ parent₀ excess′ parent′ low cell′ fall′ (n + 1)
+  swept-more =
       record {
-        near = omega arith;
-        long = p .long;
-        long₂ = p .long₂;
-        same = p .same;
-        relaxed = record {
-          kept = p .relaxed .kept;
-          lesser = below-more _ n (p .relaxed .lesser) (λ u. never v₂ u);
-          least = below-more _ n (p .relaxed .least) (λ u. never v₂ u);
-          below = p .relaxed .below;
-          found = ⊎-elim (λ f. inl f) (λ f. inr (omega (arith, f .0), f .1, f .2, f .3)) (p .relaxed .found);
-        };
-        further = λ k h. p .further k (omega arith);
+        long = r .long ∙ p .long;
+        long₂ = r .long₂ ∙ p .long₂;
+        lesser = below-more _ n
+            (λ j l. rw (there j l .0, there j l .1) (p .lesser j l))
+            (rw (← old .0, ← old .1) (r .here));
+        further = λ k none.
+            let a = r .others k (λ e. none n (omega arith) (sym e)) in
+            let b = p .further k (λ j l. none j (omega arith)) in
+            (a .0 ∙ b .0, a .1 ∙ b .1);
+        least = below-more _ n (λ j l. rw (there j l .0) (omega (arith, p .least j l, less .1))) (less .0);
+        below = omega (arith, less .1, p .below);
+        found = found;
       }
 
-  -- An unvisited item gets the lesser excess
-  module _ {e q next′ fall′ : ℕ} (l : n < maxItems) (u : Unvisited r n) (lesser : Lesser (level + price n - w bidder n) bidder (excessAt r n) (parentAt r n) e q)
-      (who : Picks e fall n next next′) (what : Picks e fall e fall fall′) where
-    abbrev stored : Tree
-    stored = carrying r (set (r .excess) n e) (set (r .parent) n q)
+pub swept-all : {w : ℕ → ℕ → ℕ} {price : ℕ → ℕ} {bidder level : ℕ} {left excess₀ parent₀ excess parent : List ℕ} {low cell fall n count : ℕ}
+    → n ≡ count → Swept w price bidder level left excess₀ parent₀ excess parent low cell fall n → Swept w price bidder level left excess₀ parent₀ excess parent low cell fall count
+swept-all e p = rw e at p
 
-    here : excessAt stored n ≡ e
-    here = getD-set-same (r .excess) n e 0 (omega (arith, p .long))
+-- The cell is one of those left, or none
+pub swept-cell : {w : ℕ → ℕ → ℕ} {price : ℕ → ℕ} {bidder level : ℕ} {left excess₀ parent₀ excess parent : List ℕ} {low cell fall count : ℕ}
+    → count ≤ maxItems → Swept w price bidder level left excess₀ parent₀ excess parent low cell fall count → cell ≤ maxItems
+swept-cell few p = ⊎-elim (λ f. omega (arith, f .0)) (λ f. omega (arith, f .0)) (p .found)
 
-    there : (k : ℕ) → k ≢ n → excessAt stored k ≡ excessAt r k
-    there k ne = getD-set-other (r .excess) n k e 0 ne
+-- What is left is a list of items
+pub remaining-listed : {visited left : List ℕ} {count : ℕ} → Remaining visited left count → ItemList left count
+remaining-listed m = record { few = m .few; within = λ j l. m .within j l .0; once = m .once }
 
-    here₂ : parentAt stored n ≡ q
-    here₂ = getD-set-same (r .parent) n q 0 (omega (arith, p .long₂))
+-- Where the items left are the unvisited ones, all items are relaxed, and the fall is the least excess of the unvisited ones
+module _ {w : ℕ → ℕ → ℕ} {price : ℕ → ℕ} {bidder level : ℕ} {visited left excess₀ parent₀ excess parent : List ℕ} {low cell fall count : ℕ}
+    (m : Remaining visited left count) (p : Swept w price bidder level left excess₀ parent₀ excess parent low cell fall count)
+    (dear : Dear w price bidder level visited excess₀) where
+  -- A visited item is not left
+  visited-kept : (k : ℕ) → flagAt visited k ≡ true → (cells excess k ≡ cells excess₀ k) × (cells parent k ≡ cells parent₀ k)
+  visited-kept k v = p .further k (λ j l (e : cells left j ≡ k). never v (rw e at (m .within j l .1)))
 
-    there₂ : (k : ℕ) → k ≢ n → parentAt stored k ≡ parentAt r k
-    there₂ k ne = getD-set-other (r .parent) n k q 0 ne
+  pub all-relaxed : Relaxed w price bidder level excess₀ parent₀ excess parent
+  all-relaxed =
+      record {
+        long = p .long;
+        long₂ = p .long₂;
+        lesser = λ k l. ⊎-elim (λ v. seen k l v) (λ u. let (j, lj, e) = m .all k l u in rw (← e) (p .lesser j lj)) (mark (flagAt visited k));
+      }
+    where
+      seen : (k : ℕ) → k < maxItems → flagAt visited k ≡ true →
+          Lesser (level + price k - w bidder k) bidder (cells excess₀ k) (cells parent₀ k) (cells excess k) (cells parent k)
+      seen k l v =
+          let a = visited-kept k v in
+          ((λ h. absurd (omega (arith, dear k l v)), λ _. a .0), (λ h. absurd (omega (arith, dear k l v)), λ _. a .1))
 
-    less : (fall′ ≤ e) × (fall′ ≤ fall)
-    less =
-        by-cases (decLt e fall)
-        (λ x. (omega (arith, what .0 x), omega (arith, what .0 x)))
-        (λ x. let z = what .1 (omega arith) in (omega arith, omega arith))
+  module _ {next : ℕ} (item : ItemAt left cell next) where
+    abbrev Met : Type 0
+    Met = ((next ≡ maxItems) × (fall ≡ low)) ⊎ ((next < maxItems) × (flagAt visited next ≡ false) × (cells excess next ≡ fall) × (fall < low))
 
-    abbrev Found : ℕ → ℕ → Type 0
-    Found i f = ((i ≡ maxItems) × (f ≡ t .low)) ⊎ ((i < n + 1) × Unvisited t i × (excessAt stored i ≡ f) × (f < t .low))
+    found-next : Met
+    found-next = ⊎-elim (λ f. inl (item .0 (f .0), f .1)) (λ f. inr (at-cell (f .0) (f .1) (f .2))) (p .found)
+      where
+        at-cell : cell < count → cells excess (cells left cell) ≡ fall → fall < low →
+            (next < maxItems) × (flagAt visited next ≡ false) × (cells excess next ≡ fall) × (fall < low)
+        at-cell l e less = let is = item .1 (omega (arith, m .few)) in rw is (m .within cell l .0, m .within cell l .1, e, less)
 
-    found : Found next′ fall′
-    found =
-        by-cases (decLt e fall)
-        (λ x. rw (who .0 x, what .0 x) (inr (omega arith, was-unvisited n u, here, omega (arith, p .relaxed .below))))
-        (λ x. let y : fall ≤ e = omega arith in rw (who .1 y, what .1 y) (⊎-elim
-        (λ f. inl f)
-        (λ f. inr (omega (arith, f .0), f .1, there next (λ z. absurd (omega (arith, f .0))) ∙ f .2, f .3))
-        (p .relaxed .found)))
-
-    pub pass-unvisited : Passing w price bidder level t stored next′ fall′ (n + 1)
-    pass-unvisited =
-        let (old, old₂) = p .further n (omega arith) in
+    pub least-left : Least (flagAt visited) (cells excess) low next fall maxItems
+    least-left =
         record {
-          near = omega arith;
-          long = length-set (r .excess) n e ∙ p .long;
-          long₂ = length-set (r .parent) n q ∙ p .long₂;
-          same = ap (λ x. carrying x (set (r .excess) n e) (set (r .parent) n q)) (p .same);
-          relaxed = record {
-            kept = λ k v. there k (λ (z : k ≡ n). never (rw z at v) (was-unvisited n u)) ∙ p .relaxed .kept k v;
-            lesser = below-more _ n
-                (λ k h v. rw (there k (λ z. absurd (omega arith)), there₂ k (λ z. absurd (omega arith))) (p .relaxed .lesser k h v))
-                (λ v. rw (here, here₂, ← old, ← old₂) lesser);
-            least = below-more _ n (λ k h v. rw (there k (λ z. absurd (omega arith))) (omega (arith, p .relaxed .least k h v, less .1))) (λ v. rw here (less .0));
-            below = omega (arith, less .1, p .relaxed .below);
-            found = found;
-          };
-          further = λ k h. let (f, g) = p .further k (omega arith) in (there k (λ z. absurd (omega arith)) ∙ f, there₂ k (λ z. absurd (omega arith)) ∙ g);
+          least = λ k l u. let (j, lj, e) = m .all k l u in rw (← e) (p .least j lj);
+          below = p .below;
+          found = found-next;
         }
 
--- The tree as it goes into the pass, and as it comes out
-abbrev pub entering : Tree → ℕ → ℕ → Tree
-entering t low lowest =
-    record {
-      root = t .root;
-      holder = t .holder;
-      visited = t .visited;
-      excess = t .excess;
-      parent = t .parent;
-      low = low;
-      lowest = lowest;
-      fall = t .fall;
-      next = t .next;
-      mover = lowest;
-    }
-
-abbrev pub leaving : Tree → ℕ → ℕ → Tree
-leaving t next fall =
-    record {
-      root = t .root;
-      holder = t .holder;
-      visited = t .visited;
-      excess = t .excess;
-      parent = t .parent;
-      low = t .low;
-      lowest = t .lowest;
-      fall = fall;
-      next = next;
-      mover = t .mover;
-    }
-
-pub pass-all : {w : ℕ → ℕ → ℕ} {price : ℕ → ℕ} {bidder level : ℕ} {t r : Tree} {low lowest next fall n : ℕ} → Passing w price bidder level (entering t low lowest) r next fall n
-    → maxItems ≤ n → Lesser level bidder (t .low) (t .lowest) low lowest → Looked w price bidder level t (leaving r next fall)
-pass-all p all l =
-    record {
-      root = ap (λ x. x .root) (p .same);
-      holder = ap (λ x. x .holder) (p .same);
-      visited = ap (λ x. x .visited) (p .same);
-      lowest = rw (ap (λ x. x .low) (p .same), ap (λ x. x .lowest) (p .same)) l;
-      mover = ap (λ x. x .mover) (p .same) ∙ sym (ap (λ x. x .lowest) (p .same));
-      relaxed = rw (ap (λ x. x .low) (p .same), le-antisymm all (p .near)) (p .relaxed);
-    }
+    pub next-placed : next ≢ maxItems → (cell < count) × (cells left cell ≡ next)
+    next-placed ne = ⊎-elim (λ f. absurd (ne (item .0 (f .0)))) (λ f. (f .0, sym (item .1 (omega (arith, m .few, f .0))))) (p .found)

@@ -3,21 +3,19 @@
 use mathlib.Core.Path.{_≡_, refl, _∙_}
 use mathlib.Core.List.{List}
 use mathlib.Core.Logic.{_≢_, inl, inr, ⊎-elim}
-use mathlib.Core.Bool.{true, false}
 use Prim.Native.Nat.{ℕ, _+_, _<_}
 use native.Mathlib.Omega.{arith}
-use lib.ListN.{set, length}
+use lib.ListN.{set, length, length-set}
 use lib.Seq.{getD-set-same, getD-set-other}
 use Rattle.duality.specs.Lists.{cells}
-use Rattle.hungarian.specs.declared.tree.Tree.{Tree}
-use Rattle.board.specs.Limits.{maxItems, maxBidders}
+use Rattle.board.specs.Limits.{maxBidders}
 use Rattle.hungarian.specs.Weights.{matrixAt}
 use Rattle.hungarian.specs.Settled.{Holds}
-use Rattle.hungarian.specs.Tree.{Visited, Unvisited, InTree, as-root, as-holder, TightNow, unvisited}
+use Rattle.hungarian.specs.Tree.{Tree, Visited, Unvisited, InTree, as-root, as-holder, TightNow, unvisited}
 use Rattle.hungarian.specs.Growth.{Everyone, Balanced}
 use Rattle.hungarian.specs.Path.{Given, Path, released, free, onward}
 use Rattle.hungarian.specs.Search.{BidderStart, ItemStart, Extends, Ended}
-use Rattle.hungarian.proofs.Cells.{never, fewer, new-or-old, old, none-before, price-visited, price-unvisited}
+use Rattle.hungarian.proofs.Cells.{never, fewer, new, new-or-old, old, none-before, price-visited, price-unvisited}
 use Rattle.hungarian.proofs.InTree.{reached-as, still-reached, inside, held-visited, not-reached}
 
 -- The tree with an item marked as visited
@@ -26,7 +24,7 @@ visiting t k =
     record {
       root = t .root;
       holder = t .holder;
-      visited = set (t .visited) k true;
+      visited = set (t .visited) k 1;
       excess = t .excess;
       parent = t .parent;
       low = t .low;
@@ -92,26 +90,30 @@ module _ {weights price gain : List ℕ} {parent item : ℕ} {t : Tree} (s : Ite
   parent-near = omega (arith, inside (s .inserting) (s .tight .reached), s .inserting .near)
 
   -- A free item goes to its parent
-  pub item-taken : length (t .holder) ≡ maxItems → cells (t .holder) item ≡ 0 → Ended weights price gain t (giving t item parent)
-  item-taken long z =
+  pub item-taken : cells (t .holder) item ≡ 0 → Ended weights price gain t (giving t item parent)
+  item-taken z =
       record {
+        long = length-set (t .holder) item (parent + 1);
         extends = given-on t item parent;
         balanced = given-balanced item parent (s .grown .balanced);
         most = omega (arith, s .grown .below, s .grown .most);
-        path = free item (s .near) (given-tight item parent parent item (s .tight)) z (gives (t .holder) item parent (omega (arith, s .near)));
+        path = free item (s .near) (given-tight item parent parent item (s .tight)) z (gives (t .holder) item parent (omega (arith, s .near, s .sized .holder)));
         start = (s .tight .level, s .tight .reached);
         kept = λ k v. getD-set-other (t .holder) item k (parent + 1) 0 (λ (e : k ≡ item). never (rw e at v) (s .fresh));
       }
 
-  module _ {j : ℕ} (long : length (t .visited) ≡ maxItems) (held : Holds (cells (t .holder)) item j) where
-    pub fewer-left : unvisited (set (t .visited) item true) < unvisited (t .visited)
-    fewer-left = fewer (t .visited) item (omega (arith, s .near)) (s .fresh)
+  module _ {j : ℕ} (held : Holds (cells (t .holder)) item j) where
+    inside-list : item < length (t .visited)
+    inside-list = omega (arith, s .near, s .sized .visited)
+
+    pub fewer-left : unvisited (set (t .visited) item 1) < unvisited (t .visited)
+    fewer-left = fewer (t .visited) item inside-list (s .fresh)
 
     here : Visited (visiting t item) item
-    here = getD-set-same (t .visited) item true false (omega (arith, s .near))
+    here = new (t .visited) item inside-list
 
     on : Extends t (visiting t item)
-    on = record { root = refl; visited = λ k v. old (t .visited) item k (omega (arith, s .near)) v; excess = λ k v. refl }
+    on = record { root = refl; visited = λ k v. old (t .visited) item k inside-list v; excess = λ k v. refl }
 
     -- Of the bidders that are reached now all but the holder were reached before
     was-reached : {i level : ℕ} → i ≢ j → InTree (cells gain) (cells (t .holder)) (visiting t item) i level → InTree (cells gain) (cells (t .holder)) t i level
@@ -123,12 +125,18 @@ module _ {weights price gain : List ℕ} {parent item : ℕ} {t : Tree} (s : Ite
         (new-or-old (t .visited) item k v)
 
     before : (k : ℕ) → Unvisited (visiting t item) k → Unvisited t k
-    before k u = none-before (t .visited) item k (omega (arith, s .near)) u
+    before k u = none-before (t .visited) item k inside-list u
 
     -- The holder is reached
     pub holder-met : BidderStart weights price gain j (visiting t item)
     holder-met =
         record {
+          sized = record {
+            holder = s .sized .holder;
+            visited = length-set (t .visited) item 1 ∙ s .sized .visited;
+            excess = s .sized .excess;
+            parent = s .sized .parent;
+          };
           inserting = s .inserting;
           reached = as-holder item here held (omega (arith, s .just));
           grown = record {
@@ -187,9 +195,10 @@ module _ {weights price gain : List ℕ} {parent item : ℕ} {t : Tree} (s : Ite
           }
 
       -- The holder moved on: the parent takes its place
-      pub item-shifted : length (v .holder) ≡ maxItems → v .mover ≡ j → Ended weights price gain t (giving v item parent)
-      item-shifted vl m =
+      pub item-shifted : v .mover ≡ j → Ended weights price gain t (giving v item parent)
+      item-shifted m =
           record {
+            long = length-set (v .holder) item (parent + 1) ∙ d .long;
             extends = record { root = far .root; visited = far .visited; excess = far .excess };
             balanced = given-balanced item parent (d .balanced);
             most = d .most;
@@ -198,7 +207,7 @@ module _ {weights price gain : List ℕ} {parent item : ℕ} {t : Tree} (s : Ite
                 apart
                 (d .kept item here ∙ held)
                 (λ x h. d .kept x (on .visited x (held-visited (s .inserting) x (s .tight .reached) h)) ∙ h)
-                (gives (v .holder) item parent (omega (arith, s .near)));
+                (gives (v .holder) item parent (omega (arith, s .near, d .long, s .sized .holder)));
             start = (s .tight .level, s .tight .reached);
             kept = λ k x. getD-set-other (v .holder) item k (parent + 1) 0 (λ (e : k ≡ item). never (rw e at x) (s .fresh)) ∙ d .kept k (on .visited k x);
           }
@@ -207,6 +216,7 @@ module _ {weights price gain : List ℕ} {parent item : ℕ} {t : Tree} (s : Ite
       pub item-passed : v .mover ≢ j → Ended weights price gain t v
       item-passed ne =
           record {
+            long = d .long;
             extends = far;
             balanced = d .balanced;
             most = d .most;

@@ -3,11 +3,10 @@ use mathlib.Core.Path.{_≡_}
 use mathlib.Core.List.{List}
 use mathlib.Core.Logic.{_≢_, _⊎_}
 use Prim.Native.Nat.{ℕ, _+_, _≤_, _<_}
-use Rattle.hungarian.specs.declared.tree.Tree.{Tree}
 use Rattle.board.specs.Limits.{maxItems, maxWeight}
 use Rattle.hungarian.specs.Limits.{unreached}
 use Rattle.hungarian.specs.Settled.{Holds}
-use Rattle.hungarian.specs.Tree.{Visited, Unvisited, excessAt, parentAt, InTree}
+use Rattle.hungarian.specs.Tree.{Tree, Visited, Unvisited, excessAt, parentAt, InTree}
 
 -- The bidders whose edges have been looked at: everyone, or all but the one that was reached last
 abbrev pub Everyone : ℕ → Type 0

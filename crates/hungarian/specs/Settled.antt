@@ -4,9 +4,10 @@
 use mathlib.Core.Path.{_≡_}
 use mathlib.Core.List.{List}
 use Prim.Native.Nat.{ℕ, suc, _+_, _≤_, _<_}
+use lib.ListN.{length}
 use Rattle.duality.specs.Lists.{cells}
 use Rattle.hungarian.specs.declared.solver.Assignment.{Assignment}
-use Rattle.board.specs.Limits.{maxItems, maxWeight}
+use Rattle.board.specs.Limits.{maxItems, maxBidders, maxWeight}
 use Rattle.hungarian.specs.Weights.{matrixAt}
 
 -- Bidder i + 1 holds item k + 1
@@ -32,6 +33,13 @@ pub record Settled (w : ℕ → ℕ → ℕ) (price gain holder : ℕ → ℕ) (
   pub unheld : (k : ℕ) → k < maxItems → holder k ≡ 0 → price k ≡ 0
   pub covers : (i k : ℕ) → i < n → k < maxItems → w i k ≤ gain i + price k
   pub low : (i : ℕ) → i < n → gain i ≤ maxWeight
+
+-- The same of lent lists, which have a cell for each item, bidder and item, over a matrix of weights
+pub record SettledIn (weights price gain holder : List ℕ) (n : ℕ) : Type 0 where
+  pub prices : length price ≡ maxItems
+  pub gains : length gain ≡ maxBidders
+  pub holders : length holder ≡ maxItems
+  pub settled : Settled (matrixAt weights) (cells price) (cells gain) (cells holder) n
 
 -- The same of an assignment, over a matrix of weights
 abbrev pub SettledBy : List ℕ → Assignment → ℕ → Type 0

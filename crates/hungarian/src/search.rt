@@ -6,9 +6,15 @@
 use crate::limits::BIDDERS;
 use crate::limits::ITEMS;
 use crate::limits::WEIGHTS;
-use crate::tree::Tree;
+use crate::tree::Front;
 use crate::tree::reach;
-ghost use Rattle.hungarian.specs.Search.{BidderStart, ItemStart, Ended};
+ghost use mathlib.Core.Path.{_≡_};
+ghost use Prim.Native.Nat.{_+_, _<_};
+ghost use lib.ListN.{set};
+ghost use Rattle.duality.specs.Lists.{cells};
+ghost use Rattle.board.specs.Limits.{maxItems, maxBidders};
+ghost use Rattle.hungarian.specs.Tree.{movedTo, treeOf, Remaining};
+ghost use Rattle.hungarian.specs.Search.{BidderStart, NextStart, Ended};
 
 // The bidder is reached. Then either a bidder of gain 0 is released, to be left out, or the tree goes on over a tight edge to an item.
 pub(crate) fn bidder_step(
@@ -16,47 +22,104 @@ pub(crate) fn bidder_step(
     price: &[u32; ITEMS],
     gain: &[u32; BIDDERS],
     bidder: usize,
-    tree: Tree,
-) -> Tree
-    requires { ⌜ BidderStart (now weights) (now price) (now gain) bidder tree ⌝ }
-    ensures { λ r. ⌜ Ended (now (weights .entry)) (now (price .entry)) (now (gain .entry)) tree r ⌝ }
+    holders: &mut [u8; ITEMS],
+    visited: &mut [u8; ITEMS],
+    left: &mut [u8; ITEMS],
+    count: usize,
+    excess: &mut [u32; ITEMS],
+    parents: &mut [u8; ITEMS],
+    front: Front,
+) -> Front
+    requires { ⌜ BidderStart (now weights) (now price) (now gain) bidder (treeOf (now holders) (now visited) (now excess) (now parents) front) ×
+        Remaining (now visited) (now left) count ⌝ }
+    ensures { λ r. ⌜ Ended (now (weights .entry)) (now (price .entry)) (now (gain .entry))
+        (treeOf (now (holders .entry)) (now (visited .entry)) (now (excess .entry)) (now (parents .entry)) front)
+        (treeOf (now (holders .exit)) (now (visited .exit)) (now (excess .exit)) (now (parents .exit)) r) ⌝ }
 {
-    let level = gain[bidder] + tree.fall;
-    let t = reach(tree, weights, price, bidder, level);
-    let item = t.next;
-    if item == ITEMS {
-        return t;
+    let level = gain[bidder] + front.fall;
+    let f = reach(
+        front,
+        left,
+        count,
+        excess,
+        parents,
+        weights,
+        price,
+        bidder,
+        level,
+    );
+    if f.next == ITEMS {
+        return f;
     }
-    let parent = t.parent[item];
-    item_step(weights, price, gain, parent, item, t)
+    item_step(
+        weights,
+        price,
+        gain,
+        holders,
+        visited,
+        left,
+        count,
+        excess,
+        parents,
+        f,
+    )
 }
 
-// The item is reached over the tight edge from its parent. A free item goes to the parent, and a held one too where its holder moves on.
+// The item goes to its parent, at which the path now starts.
+fn given(holders: &mut [u8; ITEMS], item: usize, parent: u8, front: Front) -> Front
+    requires { ⌜ (item < maxItems) × (parent < maxBidders) ⌝ }
+    ensures { λ r. ⌜ (now (holders .exit) ≡ set (now (holders .entry)) item (parent + 1)) × (r ≡ movedTo front parent) ⌝ }
+{
+    let mut f = front;
+    holders[item] = parent + 1;
+    f.mover = parent;
+    f
+}
+
+// The next item is reached over the tight edge from its parent. A free item goes to the parent, and a held one too where its holder moves on.
 fn item_step(
     weights: &[u32; WEIGHTS],
     price: &[u32; ITEMS],
     gain: &[u32; BIDDERS],
-    parent: u8,
-    item: usize,
-    tree: Tree,
-) -> Tree
-    requires { ⌜ ItemStart (now weights) (now price) (now gain) parent item tree ⌝ }
-    ensures { λ r. ⌜ Ended (now (weights .entry)) (now (price .entry)) (now (gain .entry)) tree r ⌝ }
+    holders: &mut [u8; ITEMS],
+    visited: &mut [u8; ITEMS],
+    left: &mut [u8; ITEMS],
+    count: usize,
+    excess: &mut [u32; ITEMS],
+    parents: &mut [u8; ITEMS],
+    front: Front,
+) -> Front
+    requires { ⌜ NextStart (now weights) (now price) (now gain) (treeOf (now holders) (now visited) (now excess) (now parents) front) ×
+        Remaining (now visited) (now left) count × (front .cell < count) × (cells (now left) (front .cell) ≡ front .next) ⌝ }
+    ensures { λ r. ⌜ Ended (now (weights .entry)) (now (price .entry)) (now (gain .entry))
+        (treeOf (now (holders .entry)) (now (visited .entry)) (now (excess .entry)) (now (parents .entry)) front)
+        (treeOf (now (holders .exit)) (now (visited .exit)) (now (excess .exit)) (now (parents .exit)) r) ⌝ }
 {
-    let mut t = tree;
-    let held = t.holder[item];
+    let item = front.next;
+    let parent = parents[item];
+    let held = holders[item];
     if held == 0 {
-        t.holder[item] = parent + 1;
-        t.mover = parent;
-        return t;
+        return given(holders, item, parent, front);
     }
-    t.visited[item] = true;
+    visited[item] = 1;
+    let cell = front.cell;
+    left[cell] = left[count - 1];
     let holder = held - 1;
-    let mut u = bidder_step(weights, price, gain, holder as usize, t);
-    if u.mover == holder {
-        u.holder[item] = parent + 1;
-        u.mover = parent;
-        return u;
+    let f = bidder_step(
+        weights,
+        price,
+        gain,
+        holder as usize,
+        holders,
+        visited,
+        left,
+        count - 1,
+        excess,
+        parents,
+        front,
+    );
+    if f.mover == holder {
+        return given(holders, item, parent, f);
     }
-    u
+    f
 }

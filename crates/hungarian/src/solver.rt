@@ -2,9 +2,9 @@
 use crate::limits::BIDDERS;
 use crate::limits::ITEMS;
 use crate::limits::MAX_WEIGHT;
+use crate::limits::UNREACHED;
 use crate::limits::WEIGHTS;
 use crate::search::bidder_step;
-use crate::tree::Tree;
 use crate::tree::rooted;
 use board::lent::Columns;
 use board::lent::matching_of;
@@ -16,8 +16,8 @@ ghost use lib.ListN.{length};
 ghost use Rattle.duality.specs.Lists.{cells};
 ghost use Rattle.board.specs.Limits.{maxItems, maxBidders, wordLimit};
 ghost use Rattle.hungarian.specs.Weights.{Light};
-ghost use Rattle.hungarian.specs.Settled.{SettledBy};
-ghost use Rattle.hungarian.specs.Insertion.{Adjustable, Adjusted};
+ghost use Rattle.hungarian.specs.Settled.{SettledIn, SettledBy};
+ghost use Rattle.hungarian.specs.Insertion.{AdjustableIn, AdjustedIn};
 ghost use Rattle.hungarian.specs.Solved.{SolvedBy};
 
 // Prices, gains, and the number of the bidder that holds each item, 0 where nobody does.
@@ -28,41 +28,76 @@ pub(crate) struct Assignment {
 }
 
 // What the search put off: since its visit each visited item's price has risen, and its holder's gain fallen, by as much as the fall has grown.
-// The root's gain is left.
-fn adjusted(before: Assignment, tree: Tree) -> Assignment
-    requires { ⌜ Adjustable (cells (before .price)) (cells (before .gain)) (cells (before .holder)) tree ⌝ }
-    ensures { λ r. ⌜ Adjusted (cells (before .price)) (cells (before .gain)) (cells (before .holder)) tree (cells (r .price)) (cells (r .gain)) maxItems × (r .holder ≡ tree .holder) ⌝ }
+// The holders are those before the search, and the root's gain is left.
+fn adjust(
+    price: &mut [u32; ITEMS],
+    gain: &mut [u32; BIDDERS],
+    holders: &[u8; ITEMS],
+    visited: &[u8; ITEMS],
+    excess: &[u32; ITEMS],
+    fall: u32,
+)
+    requires { ⌜ AdjustableIn (now price) (now gain) (now holders) (now visited) (now excess) fall ⌝ }
+    ensures { λ _. ⌜ AdjustedIn (now (price .entry)) (now (gain .entry)) (now (holders .entry)) (now (visited .entry)) (now (excess .entry)) fall
+        (now (price .exit)) (now (gain .exit)) ⌝ }
 {
-    let mut after = before;
     let mut k: usize = 0;
     while k < ITEMS {
-        if tree.visited[k] {
-            let change = tree.fall - tree.excess[k];
-            let i = before.holder[k] as usize - 1;
-            after.price[k] = after.price[k] + change;
-            after.gain[i] = after.gain[i] - change;
+        if visited[k] != 0 {
+            let change = fall - excess[k];
+            let i = holders[k] as usize - 1;
+            price[k] = price[k] + change;
+            gain[i] = gain[i] - change;
         }
         k += 1;
     }
-    let holder = tree.holder;
-    after.holder = holder;
-    after
+}
+
+// All items, in rising order.
+fn all_items() -> [u8; ITEMS]
+    ensures { λ r. ⌜ (length r ≡ maxItems) × ((k : ℕ) → k < maxItems → cells r k ≡ k) ⌝ }
+{
+    let mut items = [0u8; ITEMS];
+    let mut k: usize = 0;
+    while k < ITEMS {
+        items[k] = k as u8;
+        k += 1;
+    }
+    items
 }
 
 // One more bidder is settled. It comes with a gain that covers any edge, which falls till the bidder is placed or of gain 0.
-fn insert(weights: &[u32; WEIGHTS], settled: Assignment, bidder: usize) -> Assignment
-    requires { ⌜ Light (now weights) × (bidder < maxBidders) × SettledBy (now weights) settled bidder ⌝ }
-    ensures { λ r. ⌜ SettledBy (now (weights .entry)) r (bidder + 1) ⌝ }
+fn insert(
+    weights: &[u32; WEIGHTS],
+    price: &mut [u32; ITEMS],
+    gain: &mut [u32; BIDDERS],
+    holders: &mut [u8; ITEMS],
+    bidder: usize,
+)
+    requires { ⌜ Light (now weights) × (bidder < maxBidders) × SettledIn (now weights) (now price) (now gain) (now holders) bidder ⌝ }
+    ensures { λ _. ⌜ SettledIn (now (weights .entry)) (now (price .exit)) (now (gain .exit)) (now (holders .exit)) (bidder + 1) ⌝ }
 {
-    let mut before = settled;
-    before.gain[bidder] = MAX_WEIGHT;
-    let price = before.price;
-    let gain = before.gain;
-    let holder = before.holder;
-    let tree = bidder_step(weights, &price, &gain, bidder, rooted(bidder as u8, holder));
-    let mut after = adjusted(before, tree);
-    after.gain[bidder] = after.gain[bidder] - tree.fall;
-    after
+    gain[bidder] = MAX_WEIGHT;
+    let before = *holders;
+    let mut visited = [0u8; ITEMS];
+    let mut left = all_items();
+    let mut excess = [UNREACHED; ITEMS];
+    let mut parents = [bidder as u8; ITEMS];
+    let front = bidder_step(
+        weights,
+        price,
+        gain,
+        bidder,
+        holders,
+        &mut visited,
+        &mut left,
+        ITEMS,
+        &mut excess,
+        &mut parents,
+        rooted(bidder as u8),
+    );
+    adjust(price, gain, &before, &visited, &excess, front.fall);
+    gain[bidder] = gain[bidder] - front.fall;
 }
 
 // The first n bidders settled.
@@ -70,17 +105,19 @@ fn settle(weights: &[u32; WEIGHTS], n: usize) -> Assignment
     requires { ⌜ Light (now weights) × (n ≤ maxBidders) ⌝ }
     ensures { λ r. ⌜ SettledBy (now (weights .entry)) r n ⌝ }
 {
-    let mut settled = Assignment {
-        price: [0; ITEMS],
-        gain: [0; BIDDERS],
-        holder: [0; ITEMS],
-    };
+    let mut price = [0u32; ITEMS];
+    let mut gain = [0u32; BIDDERS];
+    let mut holder = [0u8; ITEMS];
     let mut i: usize = 0;
     while i < n {
-        settled = insert(weights, settled, i);
+        insert(weights, &mut price, &mut gain, &mut holder, i);
         i += 1;
     }
-    settled
+    Assignment {
+        price,
+        gain,
+        holder,
+    }
 }
 
 // Numbers of 32 bits as the caller's lists have them.

@@ -8,6 +8,7 @@ use crate::lines::is_record;
 use crate::places::at_line;
 use crate::places::ones_verdict;
 use crate::places::try_places;
+use bidding::floors::file_floors;
 use board::record::Auction;
 use refusals::Refusal;
 use refusals::Verdict;
@@ -18,10 +19,12 @@ ghost use mathlib.Core.Path.{_≡_};
 ghost use Prim.Native.Nat.{suc, _+_, _≤_};
 ghost use lib.ListN.{length};
 ghost use Rattle.board.specs.Limits.{maxText};
+ghost use Rattle.board.specs.Cells.{scaledAt};
 ghost use Rattle.supply.specs.Opening.{Counts, opened};
 ghost use Rattle.bidding.specs.Rule.{done};
+ghost use Rattle.bidding.specs.Floors.{Floored};
 ghost use Rattle.replay.specs.Replay.{stopped, linesFrom, placeLines, ones, replayOf};
-ghost use Rattle.replay.specs.ReplayLaws.{ReachedBy};
+ghost use Rattle.replay.specs.ReplayLaws.{replayed, ReachedBy};
 ghost use Rattle.replay.specs.Counted.{Counted};
 
 // How a replay ends: at the end of the text, or with a refusal at a line.
@@ -37,9 +40,27 @@ pub struct Replayed {
     pub answer: Ending,
 }
 
-// The lines after those that open the board, from a position on; the first of them is line `first`.
-fn replay_lines(text: &[u8], start: usize, first: u64, mut board: Board) -> Replayed
-    requires { ⌜ (length (now text) ≤ maxText) × (start ≤ length (now text)) × (first ≤ maxText + 2) × ReachedBy board 0 ⌝ }
+fn ended(board: Board, bids: u64, answer: Ending) -> Replayed
+    ensures { λ r. ⌜ r ≡ replayed board bids answer ⌝ }
+{
+    Replayed {
+        board,
+        bids,
+        answer,
+    }
+}
+
+// The lines after those that open the board, from a position on; the first of them is line `first`. The floors of the board's prices are lent.
+fn replay_lines(
+    text: &[u8],
+    start: usize,
+    first: u64,
+    mut board: Board,
+    floors: &mut [u32; Auction::MAX_ITEMS],
+    pence: &mut [u32; Auction::MAX_ITEMS],
+) -> Replayed
+    requires { ⌜ (length (now text) ≤ maxText) × (start ≤ length (now text)) × (first ≤ maxText + 2) × ReachedBy board 0 ×
+        Floored (board .market) (scaledAt (board .state .price)) (now floors) (now pence) ⌝ }
     ensures { λ r. ⌜ done r ≡ linesFrom (suc (length (now (text .entry)))) (now (text .entry)) start first board 0 ⌝ }
 {
     let mut bids: u64 = 0;
@@ -51,28 +72,43 @@ fn replay_lines(text: &[u8], start: usize, first: u64, mut board: Board) -> Repl
         let items = board.items;
         let market = board.market;
         let state = board.state;
-        let progress = carry_out(items, market, &mut board.weights, state, bids, line, n);
-        let after = progress.market;
+        let end = carry_out(
+            items,
+            market,
+            &mut board.weights,
+            state,
+            floors,
+            pence,
+            bids,
+            line,
+            n,
+        );
+        let after = end.market;
         board.market = after;
-        let settled = progress.state;
+        let settled = end.state;
         board.state = settled;
-        bids = progress.bids;
-        let answer = progress.answer;
+        bids = end.bids;
+        let answer = end.answer;
         let Ending::Finished = answer else {
-            return Replayed {
-                board,
-                bids,
-                answer,
-            };
+            return ended(board, bids, answer);
         };
         at = next;
         n += 1;
     }
-    Replayed {
-        board,
-        bids,
-        answer: Ending::Finished,
-    }
+    ended(board, bids, Ending::Finished)
+}
+
+// The same, of a board whose floors are to be filed.
+fn replay_rest(text: &[u8], start: usize, first: u64, board: Board) -> Replayed
+    requires { ⌜ (length (now text) ≤ maxText) × (start ≤ length (now text)) × (first ≤ maxText + 2) × ReachedBy board 0 ⌝ }
+    ensures { λ r. ⌜ done r ≡ linesFrom (suc (length (now (text .entry)))) (now (text .entry)) start first board 0 ⌝ }
+{
+    let market = board.market;
+    let price = board.state.price;
+    let mut floors = [0u32; Auction::MAX_ITEMS];
+    let mut pence = [0u32; Auction::MAX_ITEMS];
+    file_floors(market, price, &mut floors, &mut pence);
+    replay_lines(text, start, first, board, &mut floors, &mut pence)
 }
 
 // A text that is refused while its board is being opened.
@@ -101,7 +137,7 @@ fn replay_places(text: &[u8], start: usize, items: u64, p: u64, q: u64) -> Repla
         let line = line_at(text, at);
         if !is_record(line.letter, b'P', line.count == 2) {
             let all: &[u64] = &counts;
-            return replay_lines(text, at, n, empty_board(p, q, &all[0..count]));
+            return replay_rest(text, at, n, empty_board(p, q, &all[0..count]));
         }
         let item = line.numbers[0];
         let tried = try_places(items, p, q, low, counts, item, line.numbers[1]);

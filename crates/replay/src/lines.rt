@@ -18,8 +18,10 @@ ghost use mathlib.Core.Bool.{_&&_};
 ghost use Prim.Native.Nat.{_/_, min};
 ghost use lib.Dec.{eqb};
 ghost use Rattle.board.specs.Limits.{maxEdges};
+ghost use Rattle.board.specs.Cells.{scaledAt};
 ghost use Rattle.supply.specs.Board.{board};
 ghost use Rattle.bidding.specs.Rule.{done};
+ghost use Rattle.bidding.specs.Floors.{Floored};
 ghost use Rattle.auction.specs.Edges.{bufferEdges};
 ghost use Rattle.auction.specs.Arrive.{arriveOf};
 ghost use Rattle.auction.specs.Withdraw.{withdrawOf};
@@ -69,15 +71,18 @@ fn carry_arrival(
     market: Market,
     weights: &mut [u32; Auction::MAX_CELLS],
     state: State,
+    floors: &mut [u32; Auction::MAX_ITEMS],
+    pence: &mut [u32; Auction::MAX_ITEMS],
     bids: u64,
     edges: EdgeBuffer,
     n: u64,
 ) -> Progress
-    requires { ⌜ ReachedBy (board items market (now weights) state) bids ⌝ }
-    ensures { λ r. ⌜ done (replayed (board items (r .market) (now (weights .exit)) (r .state)) (r .bids) (r .answer)) ≡
-        afterArrival finished n bids (arriveOf (board items market (now (weights .entry)) state) (bufferEdges edges)) ⌝ }
+    requires { ⌜ ReachedBy (board items market (now weights) state) bids × Floored market (scaledAt (state .price)) (now floors) (now pence) ⌝ }
+    ensures { λ r. ⌜ (done (replayed (board items (r .market) (now (weights .exit)) (r .state)) (r .bids) (r .answer)) ≡
+        afterArrival finished n bids (arriveOf (board items market (now (weights .entry)) state) (bufferEdges edges))) ×
+        Floored (r .market) (scaledAt (r .state .price)) (now (floors .exit)) (now (pence .exit)) ⌝ }
 {
-    let end = arrive_in(items, market, weights, state, edges);
+    let end = arrive_in(items, market, weights, state, floors, pence, edges);
     let after = end.market;
     let settled = end.state;
     let answer = end.answer;
@@ -103,15 +108,18 @@ fn carry_withdrawal(
     market: Market,
     weights: &[u32; Auction::MAX_CELLS],
     state: State,
+    floors: &mut [u32; Auction::MAX_ITEMS],
+    pence: &mut [u32; Auction::MAX_ITEMS],
     bids: u64,
     list: &[u64],
     n: u64,
 ) -> Progress
-    requires { ⌜ ReachedBy (board items market (now weights) state) bids ⌝ }
-    ensures { λ r. ⌜ done (replayed (board items (r .market) (now (weights .entry)) (r .state)) (r .bids) (r .answer)) ≡
-        afterWithdrawal finished n bids (withdrawOf (board items market (now (weights .entry)) state) (now (list .entry))) ⌝ }
+    requires { ⌜ ReachedBy (board items market (now weights) state) bids × Floored market (scaledAt (state .price)) (now floors) (now pence) ⌝ }
+    ensures { λ r. ⌜ (done (replayed (board items (r .market) (now (weights .entry)) (r .state)) (r .bids) (r .answer)) ≡
+        afterWithdrawal finished n bids (withdrawOf (board items market (now (weights .entry)) state) (now (list .entry)))) ×
+        Floored (r .market) (scaledAt (r .state .price)) (now (floors .exit)) (now (pence .exit)) ⌝ }
 {
-    let end = withdraw_in(items, market, weights, state, list);
+    let end = withdraw_in(items, market, weights, state, floors, pence, list);
     let after = end.market;
     let settled = end.state;
     let answer = end.answer;
@@ -137,22 +145,25 @@ pub(crate) fn carry_out(
     market: Market,
     weights: &mut [u32; Auction::MAX_CELLS],
     state: State,
+    floors: &mut [u32; Auction::MAX_ITEMS],
+    pence: &mut [u32; Auction::MAX_ITEMS],
     bids: u64,
     line: Line,
     n: u64,
 ) -> Progress
-    requires { ⌜ ReachedBy (board items market (now weights) state) bids ⌝ }
-    ensures { λ r. ⌜ done (replayed (board items (r .market) (now (weights .exit)) (r .state)) (r .bids) (r .answer)) ≡
-        carryOut finished n (board items market (now (weights .entry)) state) bids (commandOf line) ⌝ }
+    requires { ⌜ ReachedBy (board items market (now weights) state) bids × Floored market (scaledAt (state .price)) (now floors) (now pence) ⌝ }
+    ensures { λ r. ⌜ (done (replayed (board items (r .market) (now (weights .exit)) (r .state)) (r .bids) (r .answer)) ≡
+        carryOut finished n (board items market (now (weights .entry)) state) bids (commandOf line)) ×
+        Floored (r .market) (scaledAt (r .state .price)) (now (floors .exit)) (now (pence .exit)) ⌝ }
 {
     if is_record(line.letter, b'A', line.count % 2 == 0) {
         let edges = edges_of(&line.numbers, line.count);
-        return carry_arrival(items, market, weights, state, bids, edges, n);
+        return carry_arrival(items, market, weights, state, floors, pence, bids, edges, n);
     }
     if is_record(line.letter, b'W', 0 < line.count) {
         let numbers: &[u64] = &line.numbers;
         let list = &numbers[0..enough(line.count)];
-        return carry_withdrawal(items, market, weights, state, bids, list, n);
+        return carry_withdrawal(items, market, weights, state, floors, pence, bids, list, n);
     }
     Progress {
         market,

@@ -50,6 +50,10 @@ pub filled-start : (l : List ℕ) (a v : ℕ) → l ≡ filled l a 0 v
 unfolding filled
 filled-start l a v = refl
 
+pub filled-one : (l : List ℕ) (a v : ℕ) → set l a v ≡ filled l a 1 v
+unfolding filled
+filled-one l a v = let e : a + 0 ≡ a = omega arith in rw e refl
+
 pub filled-next : (l m : List ℕ) (a n v : ℕ) → m ≡ filled l a n v → set m (a + n) v ≡ filled l a (n + 1) v
 unfolding filled
 filled-next l m a n v e = rw (add-one, e)

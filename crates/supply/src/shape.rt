@@ -46,11 +46,15 @@ pub fn starts_of(items: Items) -> [usize; Auction::MAX_ITEMS]
     starts
 }
 
-// A number in so many cells, from one on.
+// A number in so many cells, from one on. Most items have one place, so one cell is written without a loop.
 pub(crate) fn fill(list: &mut [u32; Auction::MAX_ITEMS], from: usize, cells: usize, value: u32)
     requires { ⌜ from + cells ≤ maxItems ⌝ }
     ensures { λ _. ⌜ now (list .exit) ≡ filled (now (list .entry)) from cells value ⌝ }
 {
+    if cells == 1 {
+        list[from] = value;
+        return;
+    }
     let mut j: usize = 0;
     while j < cells {
         list[from + j] = value;

@@ -1,13 +1,15 @@
 //! Speed, side by side in one run: the proved library and the plain Rust
-//! program. Every figure is a median over repeated runs.
+//! program, and for whole texts the straightforward one too. Every figure is a
+//! median over repeated runs.
 
 use noughtelm_tests::fast::{self, exact::greatest_weight};
 use noughtelm_tests::ffi::{self, MAX_OUTPUT};
 use noughtelm_tests::gen::history::{Call, History};
 use noughtelm_tests::gen::sheet::{edges, sheet, Pattern};
-use noughtelm_tests::gen::text::{dense_places, write};
+use noughtelm_tests::gen::text::{dense_of, dense_places, write};
 use noughtelm_tests::model::auction::{Edge, Slack};
 use noughtelm_tests::rng::Rng;
+use noughtelm_tests::simple;
 use std::hint::black_box;
 use std::time::{Duration, Instant};
 
@@ -132,10 +134,10 @@ fn speed_of_bids() {
 }
 
 fn whole_texts() {
-    head("the whole text, to the printed bytes", "          ours    plain Rust   ratio");
-    for (bidders, items) in [(4, 4), (32, 16), (128, 64)] {
-        let case = case(Pattern::UpTo(9_999), bidders, items, Slack { p: 1, q: 100 });
-        whole_text(&format!("{bidders} bidders, {items} items"), &case.text);
+    let columns = "          ours    plain Rust   ratio   simple Rust   ratio";
+    head("the whole text, to the printed bytes", columns);
+    for (bidders, items) in [(4, 4), (8, 8), (16, 16), (32, 16), (128, 64)] {
+        whole_text(&format!("{bidders} bidders, {items} items"), &dense_of(bidders, items));
     }
     whole_text("128 bidders, 16 items of 4 places", &dense_places());
 }
@@ -144,14 +146,19 @@ fn whole_text(name: &str, text: &[u8]) {
     let mut out = Box::new([0; MAX_OUTPUT]);
     let told = ffi::sheet_text(text, &mut out[..]);
     assert_eq!((told.number, &out[..told.value as usize]), (0, &fast::text::sheet(text)[..]));
-    let [ours, plain] = medians(
+    assert_eq!(fast::text::sheet(text), simple::sheet(text).into_bytes());
+    let [ours, plain, simple] = medians(
         RUNS,
-        [&mut || keep(ffi::sheet_text(black_box(text), &mut out[..])), &mut || {
-            keep(fast::text::sheet(black_box(text)))
-        }],
+        [
+            &mut || keep(ffi::sheet_text(black_box(text), &mut out[..])),
+            &mut || keep(fast::text::sheet(black_box(text))),
+            &mut || keep(simple::sheet(black_box(text))),
+        ],
     );
     let name = format!("{name}, {} bytes", text.len());
-    row(&name, micros(ours), micros(plain), ratio(ours, plain));
+    let (beside_plain, beside_simple) = (ratio(ours, plain), ratio(ours, simple));
+    print!("{name:<46}{:>14}{:>14}{beside_plain:>8.2}", micros(ours), micros(plain));
+    println!("{:>14}{beside_simple:>8.2}", micros(simple));
 }
 
 fn exact_level() {
@@ -211,7 +218,7 @@ fn grown(name: &str, bidders: u64, items: u64, q: u64) {
 }
 
 fn main() {
-    println!("medians of {RUNS} runs; a ratio is our time over the plain program's");
+    println!("medians of {RUNS} runs; a ratio is our time over that of the program before it");
     speed_of_bids();
     whole_texts();
     exact_level();

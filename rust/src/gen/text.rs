@@ -1,6 +1,8 @@
 //! History texts: of a history, random, damaged, and the dense one.
 
 use super::history::{Call, History};
+use super::sheet::{edges, sheet, Pattern};
+use crate::model::auction::Slack;
 use crate::rng::Rng;
 use std::ops::Range;
 
@@ -45,6 +47,13 @@ pub fn dense() -> Vec<u8> {
         out.push('\n');
     }
     out.into_bytes()
+}
+
+/// So many bidders with an edge at each of so many items, weights 1 to 9,999, slack 1/100.
+pub fn dense_of(bidders: u64, items: u64) -> Vec<u8> {
+    let rows = sheet(&mut Rng::new(2024), Pattern::UpTo(9_999), bidders, items, 8);
+    let calls = rows.iter().map(|row| Call::Arrive(edges(row))).collect();
+    write(&History::of_ones(items, Slack { p: 1, q: 100 }, calls))
 }
 
 /// 16 items of 4 places each, 128 bidders, all 2,048 edges with weights 1 to 9,999, slack

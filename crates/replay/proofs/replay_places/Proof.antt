@@ -119,8 +119,8 @@ part-empty-board-end c =
 empty-board-requires : tie.Need-empty-board-requires Inv-loop μ-loop
 empty-board-requires c κs = kept (c .before .before .before .before .before .before)
 
-replay-lines-requires : tie.Need-replay-lines-requires Inv-loop μ-loop
-replay-lines-requires c κs = others (c .before .before .before .before .before .before .before) (c .empty-board .ensures)
+replay-rest-requires : tie.Need-replay-rest-requires Inv-loop μ-loop
+replay-rest-requires c κs = others (c .before .before .before .before .before .before .before) (c .empty-board .ensures)
 
 returns : tie.Need-returns Inv-loop μ-loop
 returns c =
@@ -128,7 +128,7 @@ returns c =
     let l = t .before .before in
     let h = l .before .before in
     let a = start h .args in
-    c .replay-lines .ensures
+    c .replay-rest .ensures
     ∙ (ap (allLines (a .text .now) (h .loop .at) (h .loop .n)) (board-is h (c .before .empty-board .ensures))
     ∙ placing-rest (h .loop .inv .1) (l .before .loop-test .taken) (l .line-at .ensures) (sym (t .before .is-record .ensures) ∙ not-true _ (t .if1 .taken)))
 
@@ -228,7 +228,7 @@ replay-places-spec =
     part-empty-board-start
     part-empty-board-end
     empty-board-requires
-    replay-lines-requires
+    replay-rest-requires
     returns
     element-copy-out-item
     element-copy-out-try-places

@@ -1,6 +1,11 @@
 -- `withdraw::withdraw` meets its contract.
 use mathlib.Core.Path.{sym, _∙_}
+use Prim.Native.Nat.{ℕ}
+use lib.ListN.{length-replicate}
 use borrow.Author.Tests.{not-true, not-false}
+use Rattle.board.specs.Limits.{maxItems}
+use Rattle.supply.specs.declared.record.Board.{Board}
+use Rattle.supply.specs.Sound.{Sound}
 use Rattle.supply.proofs.SoundLaw.{sound-decides}
 use Rattle.auction.proofs.CallVerdicts.{withdraw-spoilt}
 use borrow.Author.Needs.{needs}
@@ -13,13 +18,25 @@ is-sound-in-requires c κs = search needs
 returns : tie.Need-returns
 returns c = sym (withdraw-spoilt _ _ (sym (c .before .is-sound-in .ensures) ∙ not-true _ (c .if1 .taken)))
 
+-- The board is sound
+abbrev board : tie.Else1 → Board
+board c = c .before .before .before .before .before .before .before .before .args .t1
+
+sound : (c : tie.Else1) → Sound (board c)
+sound c = sound-decides _ .sound (sym (c .before .is-sound-in .ensures) ∙ not-false _ (c .if1 .left))
+
+file-floors-requires : tie.Need-file-floors-requires
+file-floors-requires c κs =
+    let s = sound (c .before .before .before) .auction in
+    (s .items .1, s .slack .below, length-replicate {A = ℕ} maxItems 0, length-replicate {A = ℕ} maxItems 0)
+
 withdraw-in-requires : tie.Need-withdraw-in-requires
 withdraw-in-requires c κs =
-    let left = c .before .before in
-    sound-decides _ .sound (sym (left .before .is-sound-in .ensures) ∙ not-false _ (left .if1 .left))
+    let filed = c .before .before .before .before in
+    (sound (filed .before .before .before .before), filed .file-floors .ensures)
 
 returns-2 : tie.Need-returns-2
-returns-2 c = c .before .before .withdraw-in .ensures
+returns-2 c = c .before .before .withdraw-in .ensures .0
 
 pub withdraw-spec : {M : Type 1} → statement M
-withdraw-spec = tie.close (tie.spec is-sound-in-requires returns withdraw-in-requires returns-2)
+withdraw-spec = tie.close (tie.spec is-sound-in-requires returns file-floors-requires withdraw-in-requires returns-2)

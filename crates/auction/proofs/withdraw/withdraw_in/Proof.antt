@@ -30,7 +30,7 @@ abbrev board : tie.Start → Board
 board c = supply.board (c .args .known) (c .args .t2) (c .args .weights .now) (c .args .state)
 
 sound : (c : tie.Start) → soundTest (board c) ≡ true
-sound c = sound-decides _ .complete (c .pre)
+sound c = sound-decides _ .complete (c .pre .0)
 
 -- The items that passed their tests
 abbrev tested : tie.After-enum-told → tie.After-items-verdict
@@ -52,13 +52,13 @@ places c = simp sub-zero (c .spread-items .ensures .1)
 -- ---- The needs
 
 starts-of-requires : tie.Need-starts-of-requires
-starts-of-requires c κs = let s = c .before in sound-fits (board s) (s .pre)
+starts-of-requires c κs = let s = c .before in sound-fits (board s) (s .pre .0)
 
 items-verdict-requires : tie.Need-items-verdict-requires
 items-verdict-requires c κs =
     let begun = c .before .before .before in
     let s = begun .before .before in
-    sound-located (board s) _ (s .pre) (begun .starts-of .ensures)
+    sound-located (board s) _ (s .pre .0) (begun .starts-of .ensures)
 
 enum-known-verdict : tie.Need-enum-known-verdict
 enum-known-verdict c = search needs
@@ -70,7 +70,7 @@ spread-items-requires : tie.Need-spread-items-requires
 spread-items-requires c κs =
     let v = tested (c .before) in
     let s = start v in
-    (sound-fits (board s) (s .pre), v .before .before .before .before .starts-of .ensures, listable (c .before))
+    (sound-fits (board s) (s .pre .0), v .before .before .before .before .starts-of .ensures, listable (c .before))
 
 sub-release : tie.Need-sub-release
 sub-release c = search needs
@@ -83,26 +83,28 @@ part-release-end c = search needs
 
 release-requires : tie.Need-release-requires
 release-requires c κs =
-    let spread = c .before .before .before .before in
+    let spread = c .before .before .before .before .before .before in
     let s = start (tested (told spread)) in
-    (s .pre .auction, rw (places spread) (places-listed (board s) (s .args .items .now) (s .pre) (listable (told spread))))
+    (s .pre .0 .auction, rw (places spread) (places-listed (board s) (s .args .items .now) (s .pre .0) (listable (told spread))), s .pre .1 .size, s .pre .1 .size₂)
 
 returns : tie.Need-returns
 returns c =
     let moved = c .before .before in
-    let spread = moved .before .before .before .before .before in
+    let spread = moved .before .before .before .before .before .before .before in
     let t = told spread in
     let v = tested t in
-    let s = start v in
-    withdraw-left (board s) _ (sound s) (sym (v .items-verdict .ensures) ∙ t .enum-told .given .1) _
-    (afterChain (auction (moved .release .result .market) (s .args .weights .now) (moved .release .result .state)) (moved .release .result .bids))
-    (places spread) (moved .release .ensures)
+    let s = start v in (
+      withdraw-left (board s) _ (sound s) (sym (v .items-verdict .ensures) ∙ t .enum-told .given .1) _
+          (afterChain (auction (moved .release .result .market) (s .args .weights .now) (moved .release .result .state)) (moved .release .result .bids))
+          (places spread) (moved .release .ensures .0),
+      moved .release .ensures .1,
+    )
 
 returns-2 : tie.Need-returns-2
 returns-2 c =
     let v = c .before .before .before in
     let s = start v in
-    sym (withdraw-refused (board s) _ (sound s) _ (sym (v .items-verdict .ensures) ∙ c .before .verdict .given .1))
+    (sym (withdraw-refused (board s) _ (sound s) _ (sym (v .items-verdict .ensures) ∙ c .before .verdict .given .1)), s .pre .1)
 
 pub withdraw-in-spec : {M : Type 1} → statement M
 withdraw-in-spec =

@@ -9,8 +9,8 @@ use Rattle.bidding.proofs.moves.enter.Statement.{statement}
 use Rattle.bidding.proofs.moves.enter.Tie as tie
 
 -- Where the row is filed: the board that was handed in
-abbrev start : tie.After-settle-arg → tie.Start
-start c = c .before .before .before .before
+abbrev start : tie.After-settle-arg3 → tie.Start
+start c = c .before .before .before .before .before .before
 
 abbrev board : tie.Start → Auction
 board c = auction (c .args .market) (c .args .weights .now) (c .args .state)
@@ -26,12 +26,18 @@ add-market c = search needs
 
 settle-requires : tie.Need-settle-requires
 unfolding entered
-settle-requires c κs = let p = start c .pre in rw (c .before .before .file-row .ensures) (arrival-ready (p .0) (p .1) (p .2))
+settle-requires c κs =
+    let p = start c .pre in (
+      rw (c .before .before .before .before .file-row .ensures) (arrival-ready (p .0) (p .1) (p .2)),
+      record { above = p .3 .above; size = p .3 .size; size₂ = p .3 .size₂; whole = p .3 .whole },
+    )
 
 returns : tie.Need-returns
 returns c =
-    let at = c .before .before in
-    entered-as (board (start at)) _ _ _ (at .before .before .file-row .ensures) (c .before .settle .ensures)
+    let at = c .before .before in (
+      entered-as (board (start at)) _ _ _ (at .before .before .before .before .file-row .ensures) (c .before .settle .ensures .0),
+      c .before .settle .ensures .1,
+    )
 
 pub enter-spec : {M : Type 1} → statement M
 enter-spec = tie.close (tie.spec mul-file-row file-row-requires add-market settle-requires returns)

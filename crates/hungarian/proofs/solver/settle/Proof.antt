@@ -2,25 +2,25 @@
 use Prim.Native.Nat.{_-_, _≤_}
 use native.Mathlib.Nat.{le-antisymm}
 use native.Mathlib.Omega.{arith}
-use Rattle.hungarian.specs.Weights.{matrixAt}
-use Rattle.hungarian.specs.Settled.{SettledBy}
-use Rattle.hungarian.proofs.Inserting.{none-settled}
+use Rattle.hungarian.specs.Settled.{SettledIn}
+use Rattle.hungarian.proofs.Inserting.{none-in}
 use Rattle.hungarian.proofs.solver.settle.Statement.{statement}
 use Rattle.hungarian.proofs.solver.settle.Tie as tie
 
 abbrev Inv-loop : tie.InvT-loop
-Inv-loop weights n settled₀ i₀ settled i = (i ≤ n) × SettledBy weights settled i
+Inv-loop weights n price₀ gain₀ holder₀ i₀ price gain holder i = (i ≤ n) × SettledIn weights price gain holder i
 
 abbrev μ-loop : tie.MeasureT-loop
-μ-loop weights n settled₀ i₀ settled i = n - i
+μ-loop weights n price₀ gain₀ holder₀ i₀ price gain holder i = n - i
 
 loop-holds : tie.Need-loop-holds Inv-loop μ-loop
-loop-holds c = (omega arith, none-settled (matrixAt (c .args .weights .now)))
+loop-holds c = (omega arith, none-in (c .args .weights .now))
 
 insert-requires : tie.Need-insert-requires Inv-loop μ-loop
 insert-requires c κs =
-    let s = c .before .before .pre in
-    (s .0, omega arith, c .before .loop .inv .1)
+    let l = c .before .before .before .before in
+    let s = l .before .pre in
+    (s .0, omega arith, l .loop .inv .1)
 
 add-i : tie.Need-add-i Inv-loop μ-loop
 add-i c = omega arith
@@ -34,7 +34,7 @@ loop-again c = (omega arith, c .insert .ensures)
 returns : tie.Need-returns Inv-loop μ-loop
 returns c =
     let l = c .before .loop in
-    rw (le-antisymm (c .loop-test .left) (l .inv .0)) (l .inv .1)
+    rw (le-antisymm (c .loop-test .left) (l .inv .0)) (l .inv .1 .settled)
 
 pub settle-spec : {M : Type 1} → statement M
 settle-spec =

@@ -28,12 +28,15 @@ carry-arrival-requires c κs = search needs
 
 returns : tie.Need-returns
 returns c =
-    let k = c .before .before .before .before .before in
+    let edges = c .before .before .before .before in
+    let k = edges .before .before .before in
     let s = k .before .before in
-    let b = here s in
-    c .carry-arrival .ensures
-    ∙ (ap (λ edges. afterArrival finished (s .args .n) (s .args .bids) (arriveOf b edges)) (c .before .before .edges-of .ensures)
-    ∙ sym (carries-arrival (s .args .t6) finished (s .args .n) b (s .args .bids) (sym (k .before .is-record .ensures) ∙ k .if1 .taken)))
+    let b = here s in (
+      c .carry-arrival .ensures .0
+          ∙ (ap (λ edges. afterArrival finished (s .args .n) (s .args .bids) (arriveOf b edges)) (edges .edges-of .ensures)
+          ∙ sym (carries-arrival (s .args .t8) finished (s .args .n) b (s .args .bids) (sym (k .before .is-record .ensures) ∙ k .if1 .taken))),
+      c .carry-arrival .ensures .1,
+    )
 
 is-record-requires-2 : tie.Need-is-record-requires-2
 is-record-requires-2 c κs = search needs
@@ -55,21 +58,25 @@ carry-withdrawal-requires c κs = search needs
 
 returns-2 : tie.Need-returns-2
 returns-2 c =
-    let sized = c .before .before .before in
+    let sized = c .before .before .before .before .before in
     let k = sized .before .before .before .before in
     let s = k .before .before .before .before in
     let b = here s in
-    let first : sized .enough .result - 0 ≡ min (s .args .t6 .count) maxEdges = omega (arith, sized .enough .ensures) in
-    c .carry-withdrawal .ensures
-    ∙ (ap (λ list. afterWithdrawal finished (s .args .n) (s .args .bids) (withdrawOf b list)) (ap (λ m. take m (s .args .t6 .numbers)) first)
-    ∙ sym (carries-withdrawal (s .args .t6) finished (s .args .n) b (s .args .bids) (sym (k .before .is-record2 .ensures) ∙ k .if2 .taken)))
+    let first : sized .enough .result - 0 ≡ min (s .args .t8 .count) maxEdges = omega (arith, sized .enough .ensures) in (
+      c .carry-withdrawal .ensures .0
+          ∙ (ap (λ list. afterWithdrawal finished (s .args .n) (s .args .bids) (withdrawOf b list)) (ap (λ m. take m (s .args .t8 .numbers)) first)
+          ∙ sym (carries-withdrawal (s .args .t8) finished (s .args .n) b (s .args .bids) (sym (k .before .is-record2 .ensures) ∙ k .if2 .taken))),
+      c .carry-withdrawal .ensures .1,
+    )
 
 returns-3 : tie.Need-returns-3
 returns-3 c =
     let k = c .before .before in
     let s = k .before .before in
-    let b = here s in
-    sym (carries-none (s .args .t6) finished (s .args .n) b (s .args .bids) (sym (k .before .is-record .ensures) ∙ k .if1 .left) (sym (c .before .is-record2 .ensures) ∙ c .if2 .left))
+    let b = here s in (
+      sym (carries-none (s .args .t8) finished (s .args .n) b (s .args .bids) (sym (k .before .is-record .ensures) ∙ k .if1 .left) (sym (c .before .is-record2 .ensures) ∙ c .if2 .left)),
+      s .pre .1,
+    )
 
 pub carry-out-spec : {M : Type 1} → statement M
 carry-out-spec =
