@@ -1,9 +1,11 @@
+#![tactic(auto)]
+
 // What is refused: the rows of document 01's table, and those that document 02 adds, with their numbers and places.
 ghost use Rattle.std.specs.Prelude.{◌≡◌};
 ghost use Rattle.refusals.specs.Codes.{code_of};
 
 // The refusals of the table, each by its word; a place where it has one.
-#[derive(Drop)]
+#[derive(Clone, Copy)]
 pub enum Refusal {
     Count,
     Slack,
@@ -25,7 +27,7 @@ pub enum Refusal {
 }
 
 // Whether a call is served.
-#[derive(Drop)]
+#[derive(Clone, Copy)]
 pub enum Verdict {
     Served,
     Refused(Refusal),
@@ -33,7 +35,7 @@ pub enum Verdict {
 
 // A call's answer in numbers. Number 0 says that the call served, with a value where it has one. Any other number is the refusal's, with its place.
 #[repr(C)]
-#[derive(Drop)]
+#[derive(Clone, Copy)]
 pub struct Told {
     pub number: u64,
     pub place: u64,

@@ -2,8 +2,6 @@ pub mod Boundary
 pub mod Decimals
 pub mod Fields
 pub mod Forms
-pub mod Lent
 pub mod Lines
 pub mod Numbers
 pub mod Puts
-pub mod Readers

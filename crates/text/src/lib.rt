@@ -1,3 +1,5 @@
+#![tactic(auto)]
+
 // Fields, numbers and lines of a text, and the printing of numbers and lines.
 pub mod line;
 pub mod print;

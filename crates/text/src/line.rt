@@ -13,7 +13,7 @@ pub const KEPT: usize = 130;
 
 // A line: its letter, the position of the next line, the number of all its fields, and the first
 // KEPT numbers, 0 where there are fewer. A line not of the form is 0 throughout.
-#[derive(Drop)]
+#[derive(Clone, Copy)]
 pub struct Line {
     pub letter: u8,
     pub next: usize,

@@ -6,7 +6,7 @@ ghost use Rattle.text.specs.Reader.{tabbed_at, after_of};
 use crate::scan;
 use crate::scan::Field;
 
-#[derive(Drop)]
+#[derive(Clone, Copy)]
 pub struct Reader<'a> {
     pub text: &'a [u8],
     pub at: usize,

@@ -10,7 +10,7 @@ use crate::TAB;
 pub const MAX_DIGITS: usize = 7;
 
 // A number with the position after it, or no number.
-#[derive(Drop)]
+#[derive(Clone, Copy)]
 pub enum Field {
     Number(u64, usize),
     Bad,

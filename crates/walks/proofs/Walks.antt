@@ -1,9 +1,7 @@
 -- What every walk by hand repeats, stated once, for functions without a `&mut` parameter and without `requires`. Assumes nothing.
--- A walk shows that a function's MIR, run statement by statement, ends in what the contract says. It is needed where a function takes, makes or
--- returns a struct that holds a reference, or a slice of structs. Copy the proof whose shape is nearest: in crate text, under proofs,
---     reader/Reader/new       a struct is made of the parameters     reader/Reader/past   one call of plain data, and the struct is made anew
---     reader/Reader/current   the struct is opened for a call        line/fields_at       a loop with a local of the struct, and an array that is lent
--- and in crate auction the walk of a loop over a slice of structs. The function's MIR has the statements and the locals to walk. Then:
+-- A walk shows that a function's MIR, run statement by statement, ends in what the contract says. It is needed where Rattle proves no function by itself,
+-- which it now does for structs that hold a reference and for slices of structs: text and auction have none any more.
+-- Rattle's docs/WALKS.md has the forms of today's walks. The function's MIR has the statements and the locals to walk. Then:
 -- 1. A context is a list of entries, counted from 0. With n locals, local i stands at 2 (n - 1 - i) once they are made, and after it that it dies;
 --    behind all locals stand the token and what the parameters own. What is put in front shifts all: write the context as a comment.
 -- 2. `enter`, `makes-locals`, `params1`, a `pass1` for each parameter with the typing of its value, `pass0`.
@@ -27,9 +25,9 @@ use Prim.Native.Nat.{zero, ◌+◌}
 pub use mathlib.Core.List.{List, [], ◌∷◌}
 use mathlib.Core.List.{◌++◌}
 pub use seplogic.Ra.Ura.{Ura}
-pub use seplogic.Ra.TreeShare.{full_share}
+pub use base.Fraction.{full_share}
 pub use mir.Syntax.{named, erased, w64}
-use mir.Syntax.{Name, Place, Opd as Operand, Body, Ty, Tys, Sym, Fn, Local, local, place, copy, field, ty_struct, seq, call}
+use mir.Syntax.{Callee, Place, Opd as Operand, Body, Ty, Tys, Sym, Fn, Local, local, place, copy, field, ty_struct, seq, call}
 pub use mir.Val.{Val, WT, has_ty, vint}
 pub use base.Logic.{SProp, ent, id⊢}
 use base.Logic.{sep, emp, via, comm∗, emp∗, mono∗, mono_l, mono_r, fst∗, snd∗, ex_e}
@@ -48,9 +46,8 @@ pub use contract.Lifetimes.{Lfts}
 use contract.Lifetimes.{Shares, AllOutlive}
 pub use contract.Monad.{Fun}
 use contract.Monad.{fact, fact_i}
-pub use contract.Running.{given_of}
 use contract.Running.{Running, tables, tables_of}
-pub use types.Kit.{Given, ‵, raw, given, learn, ◌$◌, ◌∵◌, !, qed, by, move, drop as let_go, use1, use2, fsplit, fjoin}
+pub use types.Kit.{‵, raw, given, learn, ◌$◌, ◌∵◌, !, qed, by, move, drop as let_go, use1, use2, fsplit, fjoin}
 use types.Kit.{Item, ◌⊛◌, some, later, mean, ⋆, pop, push, nth, put, del, pull, Post, Goal, prop, runs, lands, allocs, frees, aim, Soaks, Seq, Step, step, cut, split, pick, rewrite, await}
 pub use types.Run.{look, init, stop, fld, from, load, of_opd, and_then, no_more, assigns, land, returns, enter, alloc1, alloc0, params1, pass1, pass0, free0}
 use types.Run.{Finds, Opd, Opds, free1}
@@ -90,7 +87,7 @@ pub use denote.Struct.Declared.{Declared}
 module _ {n : ℕ} where
   abbrev pub stays : (ss : List (Slot n)) (ks : Kepts ss) → Stays ss ks
   stays [] ks = tt
-  stays (s ∷ ss) ks = (record { fit = λ κs x f. Unit {0}; has = λ κs x f vs. (s.row κs).own x vs }, stays ss ks.1)
+  stays (s ∷ ss) ks = (record { fit = λ κs x f. Unit {0}; has = λ κs x f vs. (s.row κs).own_val x vs }, stays ss ks.1)
 
   all_fit : (κs : Lfts n) (ss : List (Slot n)) (ks : Kepts ss) (a : Denots (types_at ss κs)) (ws : Fins κs ss ks a) → fits_of κs ss ks (stays ss ks) a ws
   all_fit κs [] ks a ws = tt
@@ -98,7 +95,7 @@ module _ {n : ℕ} where
 
   has-is : (κs : Lfts n) (ss : List (Slot n)) (ks : Kepts ss) (a : Denots (types_at ss κs)) (ws : Fins κs ss ks a) (vss : Valss (types_at ss κs)) → has_of κs ss ks (stays ss ks) a ws vss ≡ owns (types_at ss κs) a vss
   has-is κs [] ks a ws vss = refl
-  has-is κs (s ∷ ss) ks a ws vss = ap (fsep ((s.row κs).own a.0 vss.0)) (has-is κs ss ks.1 a.1 ws.1 vss.1)
+  has-is κs (s ∷ ss) ks a ws vss = ap (fsep ((s.row κs).own_val a.0 vss.0)) (has-is κs ss ks.1 a.1 ws.1 vss.1)
 
 module _ {M : Type 1} {𝓤 : Ura M} (𝓛 : Logic 𝓤) (n : ℕ) where
   -- a `refl` for each parameter
@@ -145,7 +142,7 @@ module _ {M : Type 1} {𝓤 : Ura M} (𝓛 : Logic 𝓤) (𝓜 : Model 𝓤 𝓛
   abbrev Ls : Loops 𝓤 H
   Ls = (tables 𝓤 H 𝓜 𝓡 γ).Λ
 
-  pub meets : Silents 𝓛 S.lifetimes S.params T.kept → (k : Name) (e : Fn) → Closed 𝓤 H Cs Ls k e
+  pub meets : Silents 𝓛 S.lifetimes S.params T.kept → (k : Callee) (e : Fn) → Closed 𝓤 H Cs Ls k e
       → (sp : (κs : Lfts S.lifetimes) → Spells (types_at S.params κs)) → ((κs : Lfts S.lifetimes) → Tellss (types_at S.params κs) (Ises (types_at S.params κs)) (sp κs))
       → (FmC 𝓤 H 𝓛.laws Cs → (κs : Lfts S.lifetimes) (qs : Shares S.lifetimes) (bounds : AllOutlive S.lifetimes S.outlives κs) (a : Args S κs) (g : (c κs a).ghost)
       → Are (types_at S.params κs) (Ises (types_at S.params κs)) a (valss (types_at S.params κs) (sp κs) a)
@@ -222,8 +219,8 @@ module _ {M : Type 1} {𝓤 : Ura M} {𝓛 : Logic 𝓤} {K : Type 0} {Γ : List
     told t n {τ} {b} {o} e at_n = rewrite t n (λ (z : Val). ‵ (fat full_share τ b o z)) (ap only e) at_n
 
     -- what a Copy type owns is had twice
-    pub twice : K → (R : RattleType) → Copy 𝓛 R → (x : R.Denot) (vs : List Val) → Step K 𝓛 (‵ (R.own x vs) ∷ ‵ (R.own x vs) ∷ Γ) G (‵ (R.own x vs) ∷ Γ) G
-    twice t R cp x vs = step (λ s. use1 𝓛 (‵ (R.own x vs) ⊛ ‵ (R.own x vs)) (cp.twice x vs) $ split t $ s)
+    pub twice : K → (R : RattleType) → Copy 𝓛 R → (x : R.Denot) (vs : List Val) → Step K 𝓛 (‵ (R.own_val x vs) ∷ ‵ (R.own_val x vs) ∷ Γ) G (‵ (R.own_val x vs) ∷ Γ) G
+    twice t R cp x vs = step (λ s. use1 𝓛 (‵ (R.own_val x vs) ⊛ ‵ (R.own_val x vs)) (cp.twice x vs) $ split t $ s)
 
 module _ {M : Type 1} (𝓤 : Ura M) where
   beside : (P Q R : SProp 𝓤) → ent 𝓤 (emp 𝓤) R → ent 𝓤 (sep 𝓤 Q P) (sep 𝓤 (sep 𝓤 P Q) R)
@@ -271,7 +268,7 @@ module _ {M : Type 1} {𝓤 : Ura M} {𝓛 : Logic 𝓤} {K : Type 0} {Γ : List
       split t $ move t (1 ∷ []) $ use1 𝓛 (raw (fact 𝓤 (φ r))) (ex_e 𝓤 _ (λ ws. via 𝓤 _ (snd∗ 𝓤 (sem 𝓛 (lasts T y.0.0 y.0.3 ws)) _) (said r ws))) $ heard t (φ r) (λ e.
       split t $ move t (1 ∷ []) $ peeks t (Row 𝓛 T c y) (Is (Row 𝓛 T c y)) (shows 𝓛 (Row 𝓛 T c y)) r (u ∷ []) (λ is. k r e is)))
 
-  module _ {E : Env 𝓤 H} {C : Calls 𝓤 H} {Λ : Loops 𝓤 H} {f : Name} {xs : List Operand} {q : Post 𝓤 H} {d : Place} {rest : Body} where
+  module _ {E : Env 𝓤 H} {C : Calls 𝓤 H} {Λ : Loops 𝓤 H} {f : Callee} {xs : List Operand} {q : Post 𝓤 H} {d : Place} {rest : Body} where
     -- the entries Δ give what the callee asks
     called : K → FmC 𝓤 H 𝓛.laws C → (k : Contract 𝓤) → Triple 𝓤 (C f) k → (y : k.Ghost) (Δ : List (Item 𝓤)) → ent 𝓤 (⋆ 𝓛 Δ) (k.pre y) → Opds K 𝓛 (Δ ++ Γ) E xs (k.args y)
         → ((u : Val) → Seq K 𝓛 (raw (k.post y u) ∷ Γ) (lands C Λ E d u rest q)) → Seq K 𝓛 (Δ ++ Γ) (runs C Λ E (seq (call f xs d) rest) q)
