@@ -10,7 +10,7 @@ use crate::record::{Auction, State};
 use crate::units::Scaled;
 
 // A matching, prices and gains as a caller's lists have them: a cell for each bidder, item and bidder.
-#[derive(Drop)]
+#[derive(Clone, Copy)]
 pub struct Columns {
     pub plan: [u64; Auction::MAX_BIDDERS],
     pub prices: [u64; Auction::MAX_BIDDERS],

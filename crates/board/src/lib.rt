@@ -1,3 +1,5 @@
+#![tactic(auto)]
+
 // The board: what it holds, its limits and units, and the test that it is sound.
 pub mod lent; // the lists that a caller lends
 pub mod opening; // open

@@ -6,7 +6,7 @@ use crate::units::{Pence, Scaled, Slack};
 
 // An edge as a caller hands it (document 01: an entry): an item's number and a weight.
 #[repr(C)]
-#[derive(Drop)]
+#[derive(Clone, Copy)]
 pub struct Edge {
     pub item: u64,
     pub weight: Pence,
@@ -15,7 +15,7 @@ pub struct Edge {
 // What the bids are made in: how many items there are, at which slack, how many bidders have arrived, and which items are withdrawn. No bid
 // changes it.
 #[repr(C)]
-#[derive(Drop)]
+#[derive(Clone, Copy)]
 pub struct Market {
     pub items: u64,
     pub slack: Slack,
@@ -26,7 +26,7 @@ pub struct Market {
 
 // What bids change: prices, holders and gains.
 #[repr(C)]
-#[derive(Drop)]
+#[derive(Clone, Copy)]
 pub struct State {
     pub price: [Scaled; Auction::MAX_ITEMS],
     // The number of the bidder that holds each item, 0 where nobody does.
@@ -36,7 +36,7 @@ pub struct State {
 
 // The board.
 #[repr(C)]
-#[derive(Drop)]
+#[derive(Clone, Copy)]
 pub struct Auction {
     pub market: Market,
     pub state: State,
@@ -63,7 +63,7 @@ impl Auction {
 }
 
 // Who holds an item, by cell.
-#[derive(Drop)]
+#[derive(Clone, Copy)]
 pub enum Holder {
     Held(usize),
     Free,

@@ -14,7 +14,7 @@ use crate::units::{Pence, Scaled, Slack, weight_in};
 const MAX_NEED: u64 = Auction::MAX_Q * Auction::MAX_WEIGHT;
 
 // Which item each bidder holds, by the bidder's number: the item's number, 0 for none. Cell 0 is nobody's.
-#[derive(Drop)]
+#[derive(Clone, Copy)]
 struct Placing {
     // Each item's cell names nobody, or a bidder that has arrived and holds no other item.
     apart: bool,

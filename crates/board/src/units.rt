@@ -5,17 +5,17 @@ ghost use Rattle.board.specs.Limits.{max_q, word_limit};
 
 // Whole pence.
 #[repr(C)]
-#[derive(Drop)]
+#[derive(Clone, Copy)]
 pub struct Pence(pub u64);
 
 // q-ths of a penny: prices, gains and utilities.
 #[repr(C)]
-#[derive(Drop)]
+#[derive(Clone, Copy)]
 pub struct Scaled(pub u64);
 
 // The slack p/q.
 #[repr(C)]
-#[derive(Drop)]
+#[derive(Clone, Copy)]
 pub struct Slack {
     pub p: u64,
     pub q: u64,

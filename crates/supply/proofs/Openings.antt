@@ -34,7 +34,7 @@ use Rattle.board.proofs.Written.{written-length, written_in, written-past}
 use Rattle.supply.specs.declared.record.Board.{Board}
 use Rattle.supply.specs.declared.record.Items.{Items}
 use Rattle.supply.specs.declared.opening.Opened.{Opened}
-use Rattle.supply.specs.Board.{max_places, on_items, places_in, all_places, start_in, item_at}
+use Rattle.supply.specs.Board.{max_places, places_in, all_places, start_in, item_at}
 use Rattle.supply.specs.Sound.{Laid, Sound}
 use Rattle.supply.specs.Opening.{Counts, items_of, opened, OpenMet, count_checks, open_checks, open_by, open_of}
 

@@ -1,5 +1,5 @@
 -- A matching, prices and gains by place, read by item: "Read-out gives a kettle's least price".
-use Rattle.std.specs.Prelude.{◌≡◌, ℕ, ◌≤◌, ◌<◌}
+use Rattle.std.specs.Prelude.{◌≡◌, ℕ, ◌<◌}
 use Rattle.duality.specs.Lists.{cells}
 use Rattle.places.specs.Plan.{read_back}
 use Rattle.places.specs.Total.{least_price}

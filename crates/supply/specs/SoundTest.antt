@@ -8,7 +8,6 @@ use Rattle.board.specs.SoundTest as placed
 use Rattle.supply.specs.declared.record.Board.{Board}
 use Rattle.supply.specs.declared.record.Items.{Items}
 use Rattle.supply.specs.Board.{max_places, auction_of, places_in, all_places, start_in, item_at}
-use Rattle.supply.specs.ByItem.{weight_at}
 use Rattle.supply.specs.Sound.{Sound}
 
 -- The places of an item: "1 to 8", and past the count "unused cells are 0"

@@ -1,3 +1,5 @@
+#![tactic(auto)]
+
 // A board: items with places (document 02: kettles with inserts), and the auction over all places that stands under it.
 pub mod columns; // a matching and prices by place, read by item
 pub mod lent; // refusals 13 and 8 for the lists that a caller lends

@@ -14,13 +14,13 @@ use board::record::Auction;
 use refusals::{Refusal, Verdict};
 
 // What opening answers.
-#[derive(Drop)]
+#[derive(Clone, Copy)]
 pub enum Opened {
     Ready,
     Refused(Refusal),
 }
 
-#[derive(Drop)]
+#[derive(Clone, Copy)]
 pub struct Opening {
     pub board: Board,
     pub answer: Opened,

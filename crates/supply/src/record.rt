@@ -3,7 +3,7 @@ use board::record::{Auction, Market, State};
 
 // The items (document 01: kettles): how many there are, and how many places each has.
 #[repr(C)]
-#[derive(Drop)]
+#[derive(Clone, Copy)]
 pub struct Items {
     pub count: u64,
     // 1 to 8 for an item, 0 past the count.
@@ -13,7 +13,7 @@ pub struct Items {
 // The board. Market, state and weights are those of an auction over places: what it calls items are the places of all items, in item order, the places
 // of an item side by side. An edge at an item stands at each of its places.
 #[repr(C)]
-#[derive(Drop)]
+#[derive(Clone, Copy)]
 pub struct Board {
     pub items: Items,
     pub market: Market,

@@ -28,7 +28,7 @@ pub fn spread_row(items: Items, row: [u32; Auction::MAX_ITEMS]) -> [u32; Auction
 }
 
 // The numbers of places, as many as `count` says.
-#[derive(Drop)]
+#[derive(Clone, Copy)]
 pub struct PlaceList {
     pub numbers: [u64; Auction::MAX_ITEMS],
     pub count: usize,

@@ -1,0 +1,15 @@
+-- `lent::gains_of` meets its contract: the list is filled from its start.
+use mathlib.Core.Path.{refl}
+use native.Mathlib.Omega.{arith}
+use borrow.Author.Rules.{rules}
+use Rattle.board.proofs.Filling.{filled_none, filled_more}
+use Rattle.board.proofs.lent.gains_of.Goals as goal
+
+pub loop-i-init : goal.loop-i-init
+loop-i-init c = (search rules, filled_none _ _)
+
+pub loop-i-preserved : goal.loop-i-preserved
+loop-i-preserved c = (omega arith, filled_more c.loop-i.invariant.1 (omega arith) refl)
+
+pub returns : goal.returns
+returns c = λ j l. c.loop-i.invariant.1.cells j (omega arith)
