@@ -18,7 +18,7 @@ use Rattle.bidding.specs.Potential.{edge_count, potential, bid_limit}
 use Rattle.bidding.specs.Rule.{Chosen, Second, NoneOpen, placed_at, bidden, displaced, Chain, stays, takes, displaces, done, best_for, after_chain, hand_over, bid_of, settle_of, fuel_of}
 use Rattle.bidding.specs.Waiting.{SoundBut, Ready}
 use Rattle.bidding.specs.RuleLaws.{ChainOnce, Ends, ChainEnds, SettleIsChain}
-use Rattle.bidding.proofs.Choices.{chosen-once, second-once, Answers, best-at, best-nothing}
+use Rattle.bidding.proofs.Choices.{chosen-once, second-once, best-at, best-nothing}
 use Rattle.bidding.proofs.Bids.{rule-admissible, stays-sound, free-bid-sound, held-bid-sound}
 use Rattle.bidding.proofs.Potentials.{potential-within, bid-raises, limit-placed, limit-displaced, potential-displaced}
 
@@ -36,7 +36,7 @@ Rests b i = NoneOpen b.market.slack.p b.market.slack.q b.market.items (live b i)
 abbrev Same : Auction → ℕ → Auction → ℕ → Type 0
 Same c n d m = (c ≡ d) × (n ≡ m)
 
-once-stays : {b d : Auction} {i m : ℕ} → Rests b i → Chain b i d m → Same b 0 d m
+once-stays : {b : Auction} {i : ℕ} {d : Auction} {m : ℕ} → Rests b i → Chain b i d m → Same b 0 d m
 once-stays h (stays g) = (refl, refl)
 once-stays h (takes c s e) = absurd (h _ c.item c.«open»)
 once-stays h (displaces c s e r) = absurd (h _ c.item c.«open»)
@@ -48,14 +48,14 @@ once-bid b i {k} {j} {s} {t} c r g u =
     let left : s ≡ t = second-once _ _ _ _ _ j s t (rw same at r) u in
     rw (same, left) refl
 
-once-takes : {b d : Auction} {i k s m : ℕ} → Chooses b i k → Seconds b i k s → holder_of (holder_at b k) ≡ Free → Chain b i d m → Same (bidden b i k s) 1 d m
+once-takes : {b : Auction} {i k s : ℕ} {d : Auction} {m : ℕ} → Chooses b i k → Seconds b i k s → holder_of (holder_at b k) ≡ Free → Chain b i d m → Same (bidden b i k s) 1 d m
 once-takes c r e (stays h) = absurd (h _ c.item c.«open»)
 once-takes {b} {i = i} c r e (takes g u f) = (once-bid b i c r g u, refl)
 once-takes {b} {k = k} c r e (displaces {k = j} g u f t) =
     let same : k ≡ j = chosen-once _ _ _ _ _ k j c g in
     let z : ◌≡◌ {A = ℕ} 0 1 = cc in absurd (omega arith)
 
-once-displaces : {b c d : Auction} {i k s x n m : ℕ} → Chooses b i k → Seconds b i k s → holder_of (holder_at b k) ≡ Held x →
+once-displaces : {b c : Auction} {i k s x n : ℕ} {d : Auction} {m : ℕ} → Chooses b i k → Seconds b i k s → holder_of (holder_at b k) ≡ Held x →
     ((d : Auction) (m : ℕ) → Chain (displaced (bidden b i k s) x) x d m → Same c n d m) → Chain b i d m → Same c (suc n) d m
 once-displaces c r e ih (stays h) = absurd (h _ c.item c.«open»)
 once-displaces {b} {k = k} c r e ih (takes {k = j} g u f) =

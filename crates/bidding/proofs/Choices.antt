@@ -17,7 +17,7 @@ use Rattle.board.specs.declared.units.Scaled.{Scaled}
 use Rattle.bidding.specs.declared.rule.BestEdge.{BestEdge}
 use Rattle.bidding.specs.declared.rule.BestEdge.TheVariants.{At, Nothing}
 use Rattle.board.specs.Cells.{pence, scaled}
-use Rattle.bidding.specs.Rule.{Chosen, Second, NoneOpen, beats, ranked, offer_of, best_of}
+use Rattle.bidding.specs.Rule.{Chosen, Second, NoneOpen, beats, offer_of, best_of}
 use Rattle.bidding.specs.RuleLaws.{Choice, chosen, none, BestIsChosen, ChosenOnce, SecondOnce, SecondWithin, TiesByWeight}
 
 -- The edge at item k + 1 goes before that at item j + 1, or they are the same

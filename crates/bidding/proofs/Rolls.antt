@@ -36,6 +36,7 @@ rising_snoc ends f l = rises l ends
 rising_snoc (rises {x = x} l r) f m = rises l (rising_snoc r (λ h a. f h (there a)) (f x here))
 
 rising-low : {low h : ℕ} {xs : List ℕ} → RisingFrom low xs → Among h xs → low ≤ h
+rising-low ends a = elim a [ ]
 rising-low (rises l r) here = l
 rising-low (rises l r) (there a) = omega (arith, rising-low r a)
 

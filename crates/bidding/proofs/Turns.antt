@@ -17,7 +17,7 @@ use Rattle.board.specs.Limits.{max_items, max_bidders, max_weight, max_q}
 use Rattle.board.specs.Cells.{pence, scaled, price_at, holder_at, holder_of, weight_at, withdrawn_at, row_in}
 use Rattle.board.specs.Live.{live}
 use Rattle.bidding.specs.Potential.{one, edge_count, potential, bid_limit}
-use Rattle.bidding.specs.Rule.{Second, best_for, bidden, displaced, settle_of, fuel_of, after_chain, done}
+use Rattle.bidding.specs.Rule.{best_for, bidden, displaced, settle_of, fuel_of, after_chain, done}
 use Rattle.bidding.specs.Waiting.{SoundBut, Ready}
 use Rattle.bidding.proofs.Choices.{best-at, second-within}
 use Rattle.bidding.proofs.Bids.{rule-admissible}

@@ -14,7 +14,6 @@ use borrow.Author.Tests.{eqb-true, eq-eqb}
 use Rattle.duality.specs.Sums.{upd}
 use Rattle.duality.proofs.Decide.{clash, same_test, reword, eq-decides}
 use Rattle.duality.proofs.Sums.{upd_same, upd_other}
-use Rattle.duality.proofs.Exchange.{Holder}
 use Rattle.board.specs.declared.record.Auction.{Auction}
 use Rattle.board.specs.declared.record.Market.{Market}
 use Rattle.board.specs.declared.record.Holder as told

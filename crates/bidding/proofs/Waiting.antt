@@ -1,5 +1,4 @@
 -- Sound is sound but for nobody.
-use Prim.Native.Nat.{◌-◌}
 use Rattle.board.specs.Cells.{row_at}
 use Rattle.board.specs.Sound.{Sound}
 use Rattle.bidding.specs.Waiting.{SoundBut, Nobody}

@@ -12,7 +12,7 @@ use board::record::{Auction, Holder, Market, State};
 use board::units::Scaled;
 
 // The state after a chain of bids, and how many the bids were.
-#[derive(Drop)]
+#[derive(Clone, Copy)]
 pub struct ChainEnd {
     pub state: State,
     pub bids: u64,

@@ -1,3 +1,5 @@
+#![tactic(auto)]
+
 // The bids of the multiplicative auction: a bid in the four steps of the slides, the chain of bids that a bidder begins, and what begins a chain. Rows,
 // prices and holders are all that is known here.
 pub mod book; // the state while a chain runs: plain numbers, which can be lent

@@ -18,7 +18,7 @@ use board::record::{Auction, Market, State};
 use board::units::Scaled;
 
 // Market and state after a move and its chains of bids, and how many the bids were.
-#[derive(Drop)]
+#[derive(Clone, Copy)]
 pub struct Moved {
     pub market: Market,
     pub state: State,
@@ -64,7 +64,7 @@ pub fn enter(
 }
 
 // Market and state after items have left, and a mark for each bidder that held one.
-#[derive(Drop)]
+#[derive(Clone, Copy)]
 struct Vacated {
     market: Market,
     state: State,

@@ -20,7 +20,7 @@ use board::record::{Auction, Holder, holder_of};
 use board::units::{Pence, Scaled, Slack, weight_in};
 
 // The edge that is picked, with its utility and the greatest of any other open edge.
-#[derive(Drop)]
+#[derive(Clone, Copy)]
 pub enum BestEdge {
     At {
         item: usize,
@@ -66,7 +66,7 @@ pub(crate) fn test_open<'a>(
 // The best of the edges looked at. An edge whose utility is not above the bar is neither best nor second: the bar is the second utility less 1, and 0 while
 // there is no second. Before the first open edge there is no weight, and the utility is 1, which no open edge has. `own` and `least` are the utility and the
 // second in pence, rounded up, 1 while there is none: an edge that is rated at less than `least` is not above the bar.
-#[derive(Drop)]
+#[derive(Clone, Copy)]
 struct Leader {
     item: usize,
     weight: Pence,

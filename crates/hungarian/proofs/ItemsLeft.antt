@@ -1,9 +1,9 @@
 -- The items left: all at first, and one fewer where one is visited, whose cell the last of them takes.
-use mathlib.Core.Path.{◌≡◌, refl, sym, ap, ◌∙◌}
-use mathlib.Core.Bool.{Bool, true, false}
+use mathlib.Core.Path.{◌≡◌, sym, ap, ◌∙◌}
+use mathlib.Core.Bool.{false}
 use mathlib.Core.List.{List}
-use mathlib.Core.Logic.{◌≢◌, ◌⊎◌, inl, inr, ⊎_elim, by_cases}
-use Prim.Native.Nat.{ℕ, ◌+◌, ◌-◌, ◌≤◌, ◌<◌}
+use mathlib.Core.Logic.{◌≢◌, ⊎_elim, by_cases}
+use Prim.Native.Nat.{ℕ, ◌-◌, ◌<◌}
 use native.Mathlib.Decide.{ℕ_discrete, dec_lt}
 use native.Mathlib.Omega.{arith}
 use lib.ListN.{set, length, length-set, replicate}
@@ -12,7 +12,7 @@ use Rattle.duality.specs.Lists.{cells}
 use Rattle.board.specs.Limits.{max_items}
 use Rattle.board.specs.Cells.{flag_at}
 use Rattle.hungarian.specs.Tree.{Remaining}
-use Rattle.hungarian.proofs.Cells.{get_or-all, unmarked, never, new, new-or-old, old, none_before, mark}
+use Rattle.hungarian.proofs.Cells.{get_or-all, unmarked, never, new, new-or-old, none_before, mark}
 
 pub all_left : {left : List ℕ} → length left ≡ max_items → ((k : ℕ) → k < max_items → cells left k ≡ k) → Remaining (replicate max_items 0) left max_items
 all_left {left} long is =

@@ -1,10 +1,10 @@
 -- The pass over the items left when a bidder's edges are looked at.
-use mathlib.Core.Path.{◌≡◌, refl, sym, ap, ◌∙◌}
-use mathlib.Core.Bool.{Bool, true, false}
+use mathlib.Core.Path.{◌≡◌, refl, sym, ◌∙◌}
+use mathlib.Core.Bool.{true, false}
 use mathlib.Core.List.{List}
 use mathlib.Core.Logic.{◌≢◌, ◌⊎◌, inl, inr, ⊎_elim, by_cases}
 use Prim.Native.Nat.{ℕ, ◌+◌, ◌-◌, ◌≤◌, ◌<◌}
-use native.Mathlib.Decide.{ℕ_discrete, dec_lt}
+use native.Mathlib.Decide.{dec_lt}
 use native.Mathlib.Omega.{arith}
 use borrow.Author.Count.{below_more}
 use lib.ListN.{set, length, length-set}
@@ -12,7 +12,6 @@ use lib.Seq.{get_or-set_same, get_or-set_other}
 use Rattle.duality.specs.Lists.{cells}
 use Rattle.board.specs.Limits.{max_items}
 use Rattle.board.specs.Cells.{flag_at}
-use Rattle.hungarian.specs.declared.tree.Front.{Front}
 use Rattle.hungarian.specs.Tree.{Remaining}
 use Rattle.hungarian.specs.Reach.{Picks, Lesser, RelaxedAt, Relaxed, Least, ItemList, Swept, ItemAt, Dear}
 use Rattle.hungarian.proofs.Cells.{mark, never}

@@ -12,7 +12,7 @@ use supply::lent::lent_verdict;
 use supply::record::Board;
 
 // What the exact call answers: the greatest weight of a plan on the live edges, or a refusal.
-#[derive(Drop)]
+#[derive(Clone, Copy)]
 pub enum Greatest {
     Weight(Pence),
     Refused(Refusal),

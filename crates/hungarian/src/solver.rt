@@ -14,7 +14,7 @@ use board::lent::{Columns, matching_of, sum};
 use board::units::Pence;
 
 // Prices, gains, and the number of the bidder that holds each item, 0 where nobody does.
-#[derive(Drop)]
+#[derive(Clone, Copy)]
 pub(crate) struct Assignment {
     pub price: [u32; ITEMS],
     pub gain: [u32; BIDDERS],
@@ -129,7 +129,7 @@ fn wide(numbers: &[u32]) -> [u64; BIDDERS]
 }
 
 // A matching of greatest weight, prices and gains in pence that cover every edge, and the weight, which is their sum.
-#[derive(Drop)]
+#[derive(Clone, Copy)]
 pub(crate) struct Solution {
     pub columns: Columns,
     pub weight: Pence,

@@ -21,7 +21,7 @@ ghost use Rattle.hungarian.specs.Reach.{Fits, Picks, RelaxedAt, ItemList, Swept,
 use crate::limits::{ITEMS, MAX_WEIGHT, WEIGHTS};
 
 // What the tree has besides: how far its search has come.
-#[derive(Drop)]
+#[derive(Clone, Copy)]
 pub(crate) struct Front {
     // The bidder that is inserted.
     pub root: u8,
@@ -104,7 +104,7 @@ fn relax(
 }
 
 // Where the fall comes to: the least excess below a low level, and the cell of its item; or the low level, and ITEMS.
-#[derive(Drop)]
+#[derive(Clone, Copy)]
 struct Nearest {
     fall: u32,
     cell: usize,

@@ -13,7 +13,7 @@ use Rattle.board.proofs.Written.{written-length, written_start, written_next}
 use Rattle.layout.specs.declared.row.Row.{Row}
 use Rattle.layout.specs.Limits.{line_bytes}
 use Rattle.layout.specs.Row.{unplaced, row_fits, EachFits, RowsFit}
-use Rattle.layout.specs.Page.{heading, next_heading, row_line, breaks, headed, page_from, page_of, IsPageOf}
+use Rattle.layout.specs.Page.{heading, next_heading, row_line, breaks, headed, page_from, IsPageOf}
 use Rattle.layout.specs.Read.{Read, got, bad, row_read, read_of}
 use Rattle.layout.specs.Seen.{rows_in}
 use Rattle.layout.specs.Stored.{rows_got, row_item, row_weight, row_gain, RowLists, row_lists, stored_lists, start_at}

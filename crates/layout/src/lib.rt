@@ -1,3 +1,5 @@
+#![tactic(auto)]
+
 // The page of a plan: its rows as lines of fixed columns, written, judged and read back. It knows no board and no refusal.
 mod column; // a column, read and written
 mod line; // the line of a row, and the heading

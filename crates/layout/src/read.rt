@@ -69,7 +69,7 @@ fn row_next(text: &[u8], at: usize, i: u64) -> usize
 }
 
 // The lines of an entry, and the position after it or 0.
-#[derive(Drop)]
+#[derive(Clone, Copy)]
 pub struct Step {
     lines: u64,
     next: usize,
@@ -98,7 +98,7 @@ fn entry_at(text: &[u8], at: usize, i: u64) -> Step
 }
 
 // How many rows a text is the page of, and its first bad line: 0 where it is a page.
-#[derive(Drop)]
+#[derive(Clone, Copy)]
 pub struct Seen {
     pub rows: u64,
     pub line: u64,

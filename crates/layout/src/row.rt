@@ -5,7 +5,7 @@ ghost use Rattle.layout.specs.Row.{row_fits};
 use board::record::Auction;
 
 // Where a bidder stands, 0 for no item, with its weight there and its gain. Document 02: kettle, worth and gain of a batch.
-#[derive(Drop)]
+#[derive(Clone, Copy)]
 pub struct Row {
     pub item: u64,
     pub weight: u64,

@@ -1,6 +1,6 @@
 -- A plan's cells are items of the board, and no plan of a sound board weighs more than 64 edges of the greatest weight.
 use mathlib.Core.Path.{◌≡◌, refl}
-use Prim.Native.Nat.{ℕ, zero, suc, ◌+◌, ◌*◌, ◌≤◌, ◌<◌}
+use Prim.Native.Nat.{ℕ, zero, suc, ◌*◌, ◌≤◌, ◌<◌}
 use native.Mathlib.Nat.{mul-le-mul, le_refl}
 use native.Mathlib.Omega.{arith}
 use Rattle.duality.specs.Sums.{sum_to}
