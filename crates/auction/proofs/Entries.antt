@@ -64,7 +64,7 @@ first_edges item weight (suc n) = first_edges item weight n ++ (edge (item n) (w
 module _ {items : ℕ} {withdrawn : ℕ → Bool} {item weight : ℕ → ℕ} (fit : items ≤ max_items) where
   row-edges : (n : ℕ) → EdgesAccepted items withdrawn item weight n → (m : ℕ) → ((i : ℕ) → i < n → item i ≤ m) → edges_in (row_to item weight n) m ≡ first_edges item weight n
   unfolding row_to edges_in
-  row-edges zero a m l = let z : 0 + m ≡ m = omega arith in rw (← z) (edges-bare _ 0 m (λ k h. blank {A = ℕ} max_items k 0))
+  row-edges zero a m l = let z : 0 + m ≡ m = omega arith in rw (← z) (edges-bare (row_to item weight 0) 0 m (λ k h. blank {A = ℕ} max_items k 0))
   row-edges (suc n) a m l =
       let r = row_to item weight n in
       let j = item n - 1 in

@@ -3,26 +3,25 @@ use mathlib.Core.Path.{◌≡◌, refl, sym, ap, ◌∙◌}
 use mathlib.Core.Bool.{Bool, true, false}
 use mathlib.Core.List.{List}
 use mathlib.Core.Logic.{⊎_elim}
-use Prim.Native.Nat.{ℕ, suc, ◌+◌, ◌*◌, ◌≤◌, ◌<◌}
+use Prim.Native.Nat.{ℕ, suc, ◌+◌, ◌≤◌, ◌<◌}
 use native.Mathlib.Nat.{le_refl, mul-le-mul, eq-or-lt_of_le}
 use native.Mathlib.Omega.{arith}
-use lib.ListN.{length, get_or}
+use lib.ListN.{get_or}
 use lib.Dec.{eqb}
-use borrow.Author.Tests.{eqb-true, eqb-false, eq-eqb, ne_eqb}
+use borrow.Author.Tests.{eqb-true, eqb-false}
 use Rattle.duality.proofs.Decide.{clash}
-use Rattle.places.specs.Places.{AtItem}
 use Rattle.places.proofs.PlaceLaws.{no-other-item, every-place-has-its-item}
 use Rattle.board.specs.declared.record.Auction.{Auction}
 use Rattle.board.specs.Limits.{max_items, max_bidders}
-use Rattle.board.specs.Cells.{flag_at, withdrawn_at, weight_at}
+use Rattle.board.specs.Cells.{flag_at, weight_at}
 use Rattle.board.proofs.Filed.{other_row, new_row}
 use Rattle.supply.specs.declared.record.Board.{Board}
 use Rattle.supply.specs.declared.record.Items.{Items}
 use Rattle.supply.specs.Board.{auction_of, on_items, places_in, all_places, start_in, item_at}
 use Rattle.supply.specs.Spread.{spread_row}
-use Rattle.supply.specs.Sound.{Laid, Alike, Sound}
-use Rattle.supply.proofs.Shaping.{item-at, starts-in, sound-fits}
-use Rattle.supply.proofs.Spreading.{row-length, row-cell, row-past}
+use Rattle.supply.specs.Sound.{Alike, Sound}
+use Rattle.supply.proofs.Shaping.{starts-in, sound-fits}
+use Rattle.supply.proofs.Spreading.{row-length, row-cell}
 use Rattle.bidding.specs.Rule.{Chain, stays, takes, displaces, placed_at, displaced}
 use Rattle.bidding.specs.Moves.{entered}
 use Rattle.bidding.specs.Withdrawals.{Chains, ended, next}

@@ -1,15 +1,13 @@
 -- The places that a list of items names: which they are, and what goes with them.
-use mathlib.Core.Path.{◌≡◌, refl, sym, ap, ◌∙◌}
+use mathlib.Core.Path.{◌≡◌, refl, sym, ◌∙◌}
 use mathlib.Core.Bool.{Bool, true, false, ◌||◌}
 use mathlib.Core.List.{List}
-use mathlib.Core.Logic.{by_cases}
-use Prim.Native.Nat.{ℕ, zero, suc, ◌-◌, ◌≤◌, ◌<◌}
+use Prim.Native.Nat.{ℕ, zero, suc, ◌-◌, ◌<◌}
 use native.Mathlib.Nat.{suc_inj, not-suc-le-zero}
-use native.Mathlib.Decide.{ℕ_discrete}
 use native.Mathlib.Omega.{arith}
 use lib.ListN.{length}
 use lib.Dec.{eqb}
-use borrow.Author.Tests.{eqb-true, eq-eqb, ne_eqb}
+use borrow.Author.Tests.{eqb-true, eq-eqb}
 use Rattle.duality.proofs.Below.{one_more}
 use Rattle.duality.proofs.Decide.{clash}
 use Rattle.duality.specs.Lists.{cells}
@@ -23,7 +21,6 @@ use Rattle.supply.specs.Board.{auction_of, places_in, places_at, all_places, ite
 use Rattle.supply.specs.Shape.{Fits}
 use Rattle.supply.specs.Spread.{places_named, Listable}
 use Rattle.supply.specs.Sound.{Sound}
-use Rattle.supply.proofs.Shaping.{sound-fits}
 use Rattle.supply.proofs.Spreading.{named-cell, named-within, named-place}
 use Rattle.bidding.specs.Withdrawals.{named_in}
 use Rattle.bidding.specs.WithdrawalLaws.{Listed, AllGone}

@@ -19,20 +19,20 @@ use supply::sound::is_sound_in;
 use supply::spread::spread_row;
 
 // What an arrival answers: the number of bids made, or the refusal.
-#[derive(Drop)]
+#[derive(Clone, Copy)]
 pub enum Arrived {
     Bids(u64),
     Refused(Refusal),
 }
 
-#[derive(Drop)]
+#[derive(Clone, Copy)]
 pub struct Arrival {
     pub board: Board,
     pub answer: Arrived,
 }
 
 // Market and state after an arrival, and what the arrival answers.
-#[derive(Drop)]
+#[derive(Clone, Copy)]
 pub struct ArrivalIn {
     pub market: Market,
     pub state: State,

@@ -15,7 +15,7 @@ use supply::record::Items;
 
 // The edges of an arrival as two lists side by side: of each edge the item's number and the weight. Only the first `count` count, and 65 at most.
 #[repr(C)]
-#[derive(Drop)]
+#[derive(Clone, Copy)]
 pub struct EdgeBuffer {
     pub items: [u64; Auction::MAX_EDGES],
     pub weights: [u64; Auction::MAX_EDGES],

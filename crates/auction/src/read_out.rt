@@ -10,7 +10,7 @@ use supply::lent::lent_verdict;
 use supply::record::Board;
 
 // What a read-out answers.
-#[derive(Drop)]
+#[derive(Clone, Copy)]
 pub enum ReadOut {
     Written,
     Refused(Refusal),

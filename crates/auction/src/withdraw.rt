@@ -18,20 +18,20 @@ use supply::sound::is_sound_in;
 use supply::spread::spread_items;
 
 // What a withdrawal answers: the number of bids made, or the refusal.
-#[derive(Drop)]
+#[derive(Clone, Copy)]
 pub enum Withdrawn {
     Bids(u64),
     Refused(Refusal),
 }
 
-#[derive(Drop)]
+#[derive(Clone, Copy)]
 pub struct Withdrawal {
     pub board: Board,
     pub answer: Withdrawn,
 }
 
 // Market and state after a withdrawal, and what the withdrawal answers.
-#[derive(Drop)]
+#[derive(Clone, Copy)]
 pub struct WithdrawalIn {
     pub market: Market,
     pub state: State,

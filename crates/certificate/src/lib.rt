@@ -1,3 +1,5 @@
+#![tactic(auto)]
+
 // The check of a matching, prices and gains that were made elsewhere.
 mod cover; // prices and gains: refusals 11 and 12, and their sum
 
@@ -22,7 +24,7 @@ use supply::shape::starts_of;
 use supply::sound::is_sound_in;
 
 // The matching's weight, and the sum of prices and gains; or the refusal.
-#[derive(Drop)]
+#[derive(Clone, Copy)]
 pub enum Checked {
     Totals(Pence, Scaled),
     Refused(Refusal),
@@ -30,7 +32,7 @@ pub enum Checked {
 
 // The same in numbers: the weight in pence, the sum in q-ths of a penny.
 #[repr(C)]
-#[derive(Drop)]
+#[derive(Clone, Copy)]
 pub struct Totals {
     pub number: u64,
     pub place: u64,

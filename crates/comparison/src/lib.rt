@@ -1,3 +1,5 @@
+#![tactic(auto)]
+
 // Two plans side by side on one live sheet (document 02, R-4): the difference of their weights, and their order.
 mod difference; // in pence, exact
 pub mod order; // the heavier first, then by cells
@@ -16,7 +18,7 @@ use supply::shape::starts_of;
 use supply::sound::is_sound_in;
 
 // The first plan's weight less the second's in pence, and where the first stands beside the second; or the refusal.
-#[derive(Drop)]
+#[derive(Clone, Copy)]
 pub enum Compared {
     Plans(i64, Ordering),
     Refused(Refusal),
@@ -24,7 +26,7 @@ pub enum Compared {
 
 // The same in numbers: the order is 1, 2 or 3.
 #[repr(C)]
-#[derive(Drop)]
+#[derive(Clone, Copy)]
 pub struct Comparison {
     pub number: u64,
     pub place: u64,

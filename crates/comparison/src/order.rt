@@ -6,7 +6,7 @@ ghost use Rattle.comparison.specs.Compare.{smaller_first, cells_order};
 use board::units::Pence;
 
 // Where one plan stands beside another.
-#[derive(Drop)]
+#[derive(Clone, Copy)]
 pub enum Ordering {
     Earlier,
     Same,

@@ -1,3 +1,5 @@
+#![tactic(auto)]
+
 // The slow count (document 02, R-9), which planners can follow by hand: of few bidders and few places, every plan is tried.
 mod limits;
 mod rows; // live edges and free places, as the count is lent them
@@ -16,7 +18,7 @@ use supply::shape::starts_of;
 use supply::sound::is_sound_in;
 
 // What the count answers: the greatest weight of a plan on the live edges, or a refusal.
-#[derive(Drop)]
+#[derive(Clone, Copy)]
 pub enum Counted {
     Weight(Pence),
     Refused(Refusal),

@@ -2,7 +2,7 @@
 use mathlib.Core.Path.{◌≡◌, refl, sym, ◌∙◌, ap, subst}
 use mathlib.Core.Bool.{Bool, true, false}
 use mathlib.Core.Logic.{by_cases}
-use mathlib.Core.List.{List, ◌++◌}
+use mathlib.Core.List.{List}
 use Prim.Native.Nat.{ℕ, ◌≤◌, ◌<◌}
 use native.Mathlib.Decide.{dec_lt}
 use native.Mathlib.Omega.{arith}
@@ -23,20 +23,19 @@ use Rattle.supply.specs.SoundTest.{sound_test}
 use Rattle.supply.proofs.SoundLaw.{sound-decides}
 use Rattle.board.proofs.Written.{written_as}
 use Rattle.layout.specs.declared.row.Row.{Row}
-use Rattle.layout.specs.Limits.{page_bytes, max_page}
-use Rattle.layout.specs.Row.{unplaced, RowsFit}
-use Rattle.layout.specs.Page.{page_of, IsPageOf}
+use Rattle.layout.specs.Row.{unplaced}
+use Rattle.layout.specs.Page.{IsPageOf}
 use Rattle.layout.specs.Read.{Read, got, bad, read_of}
 use Rattle.layout.specs.Seen.{rows_in, SeenIs}
-use Rattle.layout.specs.Stored.{RowLists, row_lists, rows_got, rows_stored, stored_lists}
+use Rattle.layout.specs.Stored.{RowLists, row_lists, rows_stored}
 use Rattle.layout.proofs.Statements.{read-is-page, read-is-first-bad, bad-some}
 use Rattle.layout.proofs.Written.{length-rows, rows_at}
-use Rattle.layout.proofs.Bytes.{page-bytes, page-most}
+use Rattle.layout.proofs.Bytes.{page-most}
 use Rattle.page.specs.declared.writing.PageWritten.{PageWritten}
 use Rattle.page.specs.declared.reading.PageRead.{PageRead}
 use Rattle.page.specs.Rows.{weight_held, board_row, board_rows, board_page}
 use Rattle.page.specs.Writing.{WriteOutcome, wrote, write_checks, page_over, write_by, write_page_of}
-use Rattle.page.specs.Reading.{RowsOutcome, Room, room_for, read, read_checks, read_by, read_page_of}
+use Rattle.page.specs.Reading.{RowsOutcome, Room, room_for, read, read_page_of}
 use Rattle.page.specs.Laws.{WritesAs, WritesSaid, ReadsAs, ReadsSaid, ReadsBack}
 use Rattle.page.proofs.Rows.{board-is-page, boards-fit}
 use Rattle.page.proofs.ReadLaws.{read-long, read-line, read_short, read-served, room-decides}

@@ -1,11 +1,11 @@
 -- What reading a page answers, as the code comes to it, and demand 1 of it.
 use mathlib.Core.Path.{◌≡◌, refl, sym, ◌∙◌, ap}
-use mathlib.Core.Bool.{Bool, true, false, not}
+use mathlib.Core.Bool.{true, false, not}
 use mathlib.Core.List.{List}
 use Prim.Native.Nat.{ℕ, ◌≤◌, ◌<◌}
 use native.Mathlib.Omega.{arith}
 use lib.ListN.{length}
-use lib.Dec.{leb, ltb}
+use lib.Dec.{leb}
 use borrow.Author.Tests.{lt-ltb, le-ltb, le-leb, lt-leb, not-false}
 use Rattle.duality.specs.Decide.{Decides}
 use Rattle.duality.proofs.Decide.{clash, reword, lt-decides, le-decides, and-decides}
@@ -19,15 +19,14 @@ use Rattle.refusals.proofs.Verdicts.{Decided, ends, next, demand-1, served-next}
 use Rattle.refusals.proofs.Answers.{refused-apart, served-apart}
 use Rattle.board.specs.Limits.{max_text}
 use Rattle.board.proofs.Tests.{no-decides}
-use Rattle.layout.specs.declared.row.Row.{Row}
 use Rattle.layout.specs.Page.{IsPageOf}
 use Rattle.layout.specs.Read.{Read, got, bad, read_of}
 use Rattle.layout.specs.Seen.{rows_in, line_in, SeenIs}
-use Rattle.layout.specs.Stored.{RowLists, rows_got, rows_stored, stored_lists}
+use Rattle.layout.specs.Stored.{RowLists, rows_got, stored_lists}
 use Rattle.layout.specs.Statements.{FirstBad}
 use Rattle.layout.proofs.Statements.{read-is-page, read-is-first-bad, bad-some}
 use Rattle.page.specs.declared.reading.PageRead.{PageRead}
-use Rattle.page.specs.Reading.{RowsOutcome, read, Room, room_for, ReadMet, is_bad, read_checks, read_by, read_page_of, read_told}
+use Rattle.page.specs.Reading.{read, Room, room_for, ReadMet, is_bad, read_checks, read_by, read_page_of, read_told}
 use Rattle.page.specs.Demand1.{ReadServes, ReadDemand1}
 
 -- ---- As the code comes to it

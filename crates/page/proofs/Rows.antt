@@ -5,14 +5,13 @@ use mathlib.Core.List.{List}
 use Prim.Native.Nat.{ℕ, zero, suc, ◌+◌, ◌-◌, ◌*◌, ◌≤◌, ◌<◌}
 use native.Mathlib.Nat.{mul-le-mul}
 use native.Mathlib.Omega.{arith}
-use lib.ListN.{length, get_or}
-use lib.Dec.{leb, eqb}
-use borrow.Author.Tests.{le-leb, eq-eqb}
+use lib.ListN.{get_or}
+use borrow.Author.Tests.{le-leb}
 use Rattle.duality.specs.Lists.{cells}
 use Rattle.duality.specs.Matching.{at_cell}
 use Rattle.places.proofs.PlaceLaws.{every-place-has-its-item}
 use Rattle.board.specs.declared.lent.Columns.{Columns}
-use Rattle.board.specs.Limits.{max_items, max_bidders, max_weight, max_q}
+use Rattle.board.specs.Limits.{max_items, max_weight, max_q}
 use Rattle.board.specs.Cells.{row_in}
 use Rattle.board.specs.Cells as place
 use Rattle.board.specs.Live as placed
@@ -26,15 +25,14 @@ use Rattle.supply.specs.ByItem.{live, gain_at, matching_of}
 use Rattle.supply.specs.Sound.{Sound}
 use Rattle.supply.specs.Columns.{ReadByItem}
 use Rattle.supply.proofs.ByItem.{places-as-item, held-weight}
-use Rattle.layout.specs.declared.row.Row.{Row}
-use Rattle.layout.specs.Limits.{max_gain, page_bytes, max_page}
-use Rattle.layout.specs.Row.{row_is, row_fits, RowsFit}
-use Rattle.layout.specs.Written.{row_among, Writable}
-use Rattle.layout.proofs.Scans.{fit-gain, fit-placed}
+use Rattle.layout.specs.Limits.{max_gain, page_bytes}
+use Rattle.layout.specs.Row.{row_fits, RowsFit}
+use Rattle.layout.specs.Written.{row_among}
+use Rattle.layout.proofs.Scans.{fit-placed}
 use Rattle.layout.proofs.Written.{length-rows, rows_fit}
 use Rattle.layout.proofs.Bytes.{page-bytes, page-most}
 use Rattle.page.specs.Rows.{weight_held, board_row, board_rows, board_page}
-use Rattle.page.specs.Laws.{BoardIsPage, BoardBytes, BoardsFit, WeightsAdd}
+use Rattle.page.specs.Laws.{BoardIsPage, BoardsFit, WeightsAdd}
 
 -- the weight that the rows of all bidders have at the place that a matching gives bidder i + 1
 abbrev pub held_weight : List ℕ → List ℕ → ℕ → ℕ

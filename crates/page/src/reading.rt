@@ -8,7 +8,7 @@ use layout::read::{judge, store_rows};
 use refusals::Refusal;
 
 // What reading a page answers: the number of its rows, or a refusal.
-#[derive(Drop)]
+#[derive(Clone, Copy)]
 pub enum PageRead {
     Rows(u64),
     Refused(Refusal),

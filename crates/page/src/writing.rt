@@ -16,7 +16,7 @@ use supply::record::Board;
 use supply::sound::is_sound_in;
 
 // What writing a page answers: the bytes written, or a refusal.
-#[derive(Drop)]
+#[derive(Clone, Copy)]
 pub enum PageWritten {
     Bytes(u64),
     Refused(Refusal),

@@ -1,0 +1,23 @@
+-- `trying::greatest_weight` meets its contract.
+use Rattle.std.proofs.Common.{rules, arith}
+use Rattle.counting.proofs.Turns.{countable-rest, tried-none, tried-full, tried-free}
+use Rattle.counting.proofs.trying.+greatest_weight.Goals as goal
+use Rattle.counting.proofs.trying.+greatest_weight.Goals.{then-free-k-gt0, else-free-k-gt0}
+
+pub greatest_weight-best-requires : goal.greatest_weight-best-requires
+greatest_weight-best-requires t c = (omega (arith, c.decreases), countable-rest c.requires (omega arith))
+
+pub loop-k-init : goal.loop-k-init
+loop-k-init t c = tried-none (omega arith) c.greatest_weight-best.ensures
+
+pub greatest_weight-weight-requires : goal.greatest_weight-weight-requires
+greatest_weight-weight-requires t c = (omega (arith, c.decreases), countable-rest c.requires (omega arith))
+
+pub loop-k-preserved : goal.loop-k-preserved
+loop-k-preserved t c =
+    let at = c.loop-k.invariant in
+    let near = c.loop-k-test.true in
+    elim c.if-free-k-gt0.branch [
+      | then-free-k-gt0 w ↦ rw w.best-is (tried-free at near c.requires (search rules) (omega (arith, w.if-free-k-gt0.true)) w.greatest_weight-weight.ensures w.greater-best.ensures)
+      | else-free-k-gt0 w ↦ rw w.best-is (tried-full at near (omega (arith, w.if-free-k-gt0.false)))
+    ]
