@@ -14,7 +14,6 @@ use Rattle.supply.specs.declared.record.Board.{Board}
 use Rattle.board.specs.declared.record.Edge.{Edge}
 use Rattle.refusals.specs.declared.Refusal.{Refusal}
 use Rattle.refusals.specs.declared.Verdict.{Verdict}
-use Rattle.supply.specs.declared.opening.Opened.{Opened}
 use Rattle.auction.specs.declared.arrive.Arrived.{Arrived}
 use Rattle.auction.specs.declared.arrive.Arrival.{Arrival}
 use Rattle.auction.specs.declared.withdraw.Withdrawn.{Withdrawn}

@@ -1,7 +1,9 @@
+#![tactic(auto)]
+
 // The replay of a history text: "each line is tested and carried out before the next". The board stays sound from line to line and is not tested at
 // every one; its weights, most of the board, are lent and not passed on.
 mod lines; // a line carried out
-mod places; // the lines that say how many places an item has
+mod place_lines; // the lines that say how many places an item has
 
 ghost use Rattle.std.specs.Prelude.{◌≡◌, suc, ◌+◌, ◌≤◌, length};
 ghost use Rattle.board.specs.Limits.{max_text};
@@ -14,7 +16,7 @@ ghost use Rattle.replay.specs.ReplayLaws.{replayed, ReachedBy};
 ghost use Rattle.replay.specs.Counted.{Counted};
 
 use crate::lines::{carry_out, is_record};
-use crate::places::{at_line, ones_verdict, try_places};
+use crate::place_lines::{at_line, ones_verdict, try_places};
 use bidding::floors::file_floors;
 use board::record::Auction;
 use refusals::{Refusal, Verdict};
@@ -23,14 +25,14 @@ use supply::record::Board;
 use text::line::line_at;
 
 // How a replay ends: at the end of the text, or with a refusal at a line.
-#[derive(Drop)]
+#[derive(Clone, Copy)]
 pub enum Ending {
     Finished,
     Stopped(Refusal, u64),
 }
 
 // The board that the replay came to, and the bids in all.
-#[derive(Drop)]
+#[derive(Clone, Copy)]
 pub struct Replayed {
     pub board: Board,
     pub bids: u64,

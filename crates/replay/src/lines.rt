@@ -21,7 +21,7 @@ use supply::record::Items;
 use text::line::{KEPT, Line};
 
 // How far the lines came, without the weights: finished so far, or stopped at a line.
-#[derive(Drop)]
+#[derive(Clone, Copy)]
 pub(crate) struct Progress {
     pub(crate) market: Market,
     pub(crate) state: State,

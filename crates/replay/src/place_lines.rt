@@ -37,7 +37,7 @@ pub(crate) fn ones_verdict(items: u64, p: u64, q: u64) -> Verdict
 }
 
 // The counts with one more, and whether a board is opened with them.
-#[derive(Drop)]
+#[derive(Clone, Copy)]
 pub(crate) struct Tried {
     pub(crate) counts: [u64; Auction::MAX_ITEMS],
     pub(crate) verdict: Verdict,
