@@ -1,13 +1,8 @@
 -- The pages, by computation.
-use mathlib.Core.Path.{◌≡◌, refl, ap, ◌∙◌}
-use mathlib.Core.List.{List, [], ◌∷◌, ◌++◌}
-use Prim.Native.Nat.{ℕ}
-use Rattle.text.specs.Number.{field_at}
-use Rattle.text.specs.Line.{fields_at, line_at}
+use mathlib.Core.Path.{refl}
 use Rattle.text.specs.Print.{decimal}
 use Rattle.layout.specs.Page.{padded, heading, row_line, breaks}
 use Rattle.layout.specs.Read.{row_read, read_fixed, read_row, read_of}
-use Rattle.page.specs.Rows.{board_page}
 use Rattle.cases.specs.Pages.{Pages}
 use Rattle.cases.proofs.Text.{walls-print}
 

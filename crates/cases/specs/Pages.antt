@@ -1,6 +1,5 @@
 -- The page of the kitchen wall, worked: bytes of pages, and what reading answers.
 use Rattle.std.specs.Prelude.{◌≡◌, List, [], ◌∷◌, ◌++◌, ℕ, ◌*◌, length, get_or, replicate}
-use Rattle.layout.specs.declared.row.Row.{Row}
 use Rattle.layout.specs.Row.{row_is, unplaced}
 use Rattle.layout.specs.Page.{page_of}
 use Rattle.layout.specs.Read.{got, bad, read_of}

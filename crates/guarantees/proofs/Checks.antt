@@ -19,7 +19,7 @@ use Rattle.places.proofs.SpreadCover.{cover-spreads, least-prices-cover, total-o
 use Rattle.places.proofs.EqualExactlyWhenBestWith.{plan-as, total-with-as, total-with-lists}
 use Rattle.board.specs.Limits.{max_weight}
 use Rattle.board.specs.Cells as place
-use Rattle.board.specs.Lent.{Lists, lists}
+use Rattle.board.specs.Lent.{Lists}
 use Rattle.board.proofs.Light.{live-within}
 use Rattle.supply.specs.declared.record.Board.{Board}
 use Rattle.supply.specs.Board.{auction_of, places_at, start_in, item_at}

@@ -16,7 +16,6 @@ use Rattle.supply.specs.declared.record.Board.{Board}
 use Rattle.bidding.specs.Rule.{done}
 use Rattle.replay.specs.declared.Ending.{Ending}
 use Rattle.replay.specs.declared.Replayed.{Replayed}
-use Rattle.replay.specs.Replay.{finished}
 use Rattle.replay.specs.ReplayLaws.{replayed}
 use Rattle.replay.specs.TextDemand1.{TextFinished}
 use Rattle.replay.proofs.Texts.{TextFate, stops, ends, replay-fate, refused-text, finished-text}

@@ -1,6 +1,5 @@
 -- Laws of the page of the board that a text reaches.
-use mathlib.Core.Path.{◌≡◌, refl, sym, ◌∙◌, ap}
-use mathlib.Core.Bool.{true}
+use mathlib.Core.Path.{◌≡◌, sym, ◌∙◌, ap}
 use mathlib.Core.List.{List, ◌++◌}
 use Prim.Native.Nat.{ℕ, ◌≤◌}
 use native.Mathlib.Omega.{arith}
@@ -22,7 +21,7 @@ use Rattle.page.specs.declared.writing.PageWritten.{PageWritten}
 use Rattle.page.specs.Rows.{board_page}
 use Rattle.page.specs.Writing.{WriteOutcome, wrote, page_over, write_page_of}
 use Rattle.page.proofs.WriteLaws.{write-room}
-use Rattle.history.specs.Output.{refusal_line, refusal_of}
+use Rattle.history.specs.Output.{refusal_line}
 use Rattle.history.specs.Plan.{AtFront}
 use Rattle.history.specs.Wall.{wall_by, wall_from, wall_of, WallWritten, WallsDemand1}
 use Rattle.history.proofs.Sheets.{at_front}

@@ -19,7 +19,7 @@ use supply::record::Board;
 use text::print::{MAX_LINE, put_line};
 
 // What a text is answered: the bytes that were written, or a refusal and its line.
-#[derive(Drop)]
+#[derive(Clone, Copy)]
 pub enum Planned {
     Written(u64),
     Refused(Refusal, u64),
