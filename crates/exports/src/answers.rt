@@ -33,7 +33,7 @@ use supply::record::Board;
 
 // What a call answers in numbers, beside a board.
 #[repr(C)]
-#[derive(Drop)]
+#[derive(Clone, Copy)]
 pub struct Answer {
     pub board: Board,
     pub number: u64,

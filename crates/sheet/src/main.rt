@@ -1,30 +1,36 @@
+#![tactic(auto)]
+
 // The sheet program: a history text from standard input, its plan or its refusal to standard output.
 ghost use Rattle.std.specs.Prelude.{◌≡◌};
 ghost use Rattle.history.specs.Plan.{sheet_of};
 
-use history::planning::MAX_OUTPUT;
+use history::planning::{MAX_OUTPUT, sheet_text};
 use input::{MAX_READ, read_text};
-use libc::{STDERR_FILENO, STDOUT_FILENO};
+
+// What goes wrong is told on standard error; where that cannot be written either, nobody can be told.
+fn tell(rt: &impl Eprint, what: &str) {
+    let _ = rt.eprintln(what);
+}
 
 // Writes what the program prints for a text.
-fn print(text: &[u8], page: &[u8])
+fn print(rt: &(impl Print + Eprint), text: &[u8], page: &[u8])
     requires { page.now ≡ sheet_of text.now }
 {
-    if !io::write_all(STDOUT_FILENO, page) {
-        io::write_all(STDERR_FILENO, b"sheet: output lost\n");
+    if rt.write_all(page).is_err() {
+        tell(rt, "sheet: output lost");
     }
 }
 
-fn main() {
+fn main(rt: HostRuntime) {
     let mut text = [0u8; MAX_READ];
-    let input = read_text(&mut text);
+    let input = read_text(&mut rt.stdin(), &mut text);
     // Half a text can be well formed, and its plan would look like a good one.
     if !input.whole {
-        io::write_all(STDERR_FILENO, b"sheet: input cannot be read\n");
+        tell(&rt, "sheet: input cannot be read");
         return;
     }
     let n = input.bytes;
     let mut out = [0u8; MAX_OUTPUT];
-    let m = history::planning::sheet_text(&text[..n], &mut out);
-    print(&text[..n], &out[..m]);
+    let m = sheet_text(&text[..n], &mut out);
+    print(&rt, &text[..n], &out[..m]);
 }

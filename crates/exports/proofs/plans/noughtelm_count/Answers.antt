@@ -1,0 +1,7 @@
+-- `plans::noughtelm_count` meets its contract.
+use mathlib.Core.Path.{ap, ◌∙◌}
+use Rattle.counting.specs.Call.{counted_told}
+use Rattle.exports.proofs.plans.noughtelm_count.Goals as goal
+
+pub returns : goal.returns
+returns c = c.counted_told.ensures ∙ ap counted_told c.count-answer.ensures
