@@ -1,6 +1,6 @@
 /*
  * The proved calls, for C11 and C++11: the functions of the crate `exports`, which stand in
- * target/staticlib/libexports.a once `rt staticlib exports` has made it (x86-64).
+ * crates/exports/out/libexports.a once `rt lib` in crates/exports has made it (x86-64).
  *
  * Names are the field's: document 01's kettle is an item here, its batch a bidder, its entry an
  * edge, its worth a weight, its plan a matching. What is between quotation marks below is

@@ -1,5 +1,5 @@
 //! The built programs `sheet` and `wall`, which prints pages, and others, run as
-//! processes. The gate builds them before the tests; where one is missing a run fails.
+//! processes. The gate proves and builds them before the tests; where one is missing a run fails.
 
 use std::io::Write;
 use std::path::{Path, PathBuf};
@@ -12,7 +12,7 @@ pub fn root() -> PathBuf {
 
 /// The built program of this name.
 pub fn built(name: &str) -> PathBuf {
-    let path = root().join("target/bin").join(name);
+    let path = root().join("crates").join(name).join("out").join(name);
     assert!(path.is_file(), "there is no program {}", path.display());
     path
 }

@@ -12,9 +12,9 @@ use std::sync::Once;
 
 pub const CASE_1: &[u8] = b"K\t2\t1\t10\nA\t1\t100\t2\t60\nA\t1\t90\n";
 pub const PLAN_1: &str = "P\t1\t2\t0\nP\t2\t1\t0\nY\t1\t990\nY\t2\t660\nT\t150\t1650\t3\nE\t150\n";
-/// A stand-in for `rt` that finds everything proved.
+/// A stand-in for `rt` that finds everything proved, and runs the program in whose crate it is called.
 pub const UNCHANGED: &str =
-    "cat >/dev/null; echo 'rt: sheet proved (unchanged since it was last proved)'";
+    "echo 'rt: nothing has changed' >&2; name=${PWD##*/}; echo \"rt: running out/$name\" >&2; exec out/$name";
 
 /// A folder that is removed at the end.
 pub struct Folder(pub PathBuf);
@@ -50,17 +50,23 @@ pub fn script(file: &Path, lines: &str) {
 
 /// A tree with ./plan, the built programs, and a stand-in for `rt`.
 pub fn tree(rt: &str) -> Folder {
+    build();
     let tree = Folder::new();
-    for folder in ["target/bin", "target/stamp", "tools"] {
-        fs::create_dir_all(tree.join(folder)).expect("a folder");
-    }
+    fs::create_dir(tree.join("tools")).expect("a folder");
     fs::copy(root().join("plan"), tree.join("plan")).expect("the command");
-    for program in ["sheet", "wall"] {
-        fs::write(tree.join("target/stamp").join(program), "").expect("a stamp");
-        fs::copy(built(program), tree.join("target/bin").join(program)).expect("the program");
+    for name in ["sheet", "wall"] {
+        let program = program(&tree, name);
+        fs::create_dir_all(program.parent().expect("a folder")).expect("a folder");
+        fs::write(program.with_extension("stamp"), "").expect("a stamp");
+        fs::copy(built(name), program).expect("the program");
     }
     script(&tree.join("tools/rt"), rt);
     tree
+}
+
+/// A program of such a tree.
+pub fn program(tree: &Folder, name: &str) -> PathBuf {
+    tree.join("crates").join(name).join("out").join(name)
 }
 
 /// ./plan of such a tree.
@@ -99,12 +105,22 @@ pub fn given(mut command: Command, text: &[u8]) -> Came {
     came
 }
 
-/// The tree's own ./plan, with its program built.
-pub fn own() -> Command {
+/// Builds both programs by ./plan, once: from then on they stay as they are.
+fn build() {
     static BUILT: Once = Once::new();
-    let plan = || Command::new(root().join("plan"));
-    BUILT.call_once(|| assert_eq!(came(run(plan(), CASE_1)).0, 0));
-    plan()
+    BUILT.call_once(|| {
+        for arguments in [&[][..], &["--page"]] {
+            let mut plan = Command::new(root().join("plan"));
+            plan.args(arguments);
+            assert_eq!(came(run(plan, CASE_1)).0, 0, "{arguments:?}");
+        }
+    });
+}
+
+/// The tree's own ./plan, with its programs built.
+pub fn own() -> Command {
+    build();
+    Command::new(root().join("plan"))
 }
 
 pub fn own_with(arguments: &[&str], text: &[u8]) -> Came {

@@ -208,51 +208,77 @@ fn a_lost_output() {
 
 #[test]
 fn a_tree_that_is_not_proved() {
-    let tree = tree("echo 'rt: sheet NOT PROVED'; exit 1");
     let words =
         "rt: sheet NOT PROVED\nplan: the program is not proved as the tree stands: no plan\n";
-    nothing_planned(given(command(&tree), CASE_1), words);
+    for status in 1..=3 {
+        let tree = tree(&format!("echo 'rt: sheet NOT PROVED' >&2; exit {status}"));
+        nothing_planned(given(command(&tree), CASE_1), words);
+    }
 }
 
+/// Of what an `rt` writes that says of no program that it runs, nothing is printed.
 #[test]
-fn a_tree_that_cannot_be_written() {
-    for (removed, other) in [("target", "a file"), ("target/plan.lock", "a folder")] {
-        let tree = tree(UNCHANGED);
-        let path = tree.join(removed);
-        match other {
-            "a file" => fs::remove_dir_all(&path).and_then(|()| fs::write(&path, "")),
-            _ => fs::create_dir(&path),
-        }
-        .expect(other);
-        let target = fs::canonicalize(&tree.0).expect("the tree's folder").join("target");
-        let words = format!("plan: nothing can be written to {}\n", target.display());
-        nothing_planned(given(command(&tree), CASE_1), &words);
+fn a_page_of_no_program() {
+    for lines in ["out/sheet", "out/sheet; echo 'rt: running out/other' >&2"] {
+        let (status, page, words) = given(command(&tree(lines)), CASE_1);
+        assert_eq!((status, page.as_str()), (2, ""));
+        assert!(words.ends_with("plan: the check left no program\n"), "{words}");
     }
 }
 
 #[test]
-fn progress_of_what_is_proved_afresh() {
-    let said =
-        "printf 'rt: %s proved (%s)\\n' text 'unchanged since it was last proved' sheet '3 s'";
-    let (status, page, words) = given(command(&tree(said)), CASE_1);
-    assert_eq!((status, page.as_str(), words.as_str()), (0, PLAN_1, "plan: sheet proved (3 s)\n"));
+fn a_tree_that_cannot_be_written() {
+    let tree = tree(UNCHANGED);
+    let out = tree.join("crates/sheet/out");
+    fs::remove_dir_all(&out).and_then(|()| fs::write(&out, "")).expect("a file");
+    let out = fs::canonicalize(&out).expect("the file");
+    let words = format!("plan: nothing can be written to {}\n", out.display());
+    nothing_planned(given(command(&tree), CASE_1), &words);
 }
 
-/// A check passes over a program that is gone, until its stamp is gone too.
 #[test]
-fn a_program_that_was_removed() {
-    let tree = tree(
-        "[ -f target/stamp/sheet ] || { mv kept target/bin/sheet; echo 'rt: sheet proved (3 s)'; }",
-    );
-    fs::rename(tree.join("target/bin/sheet"), tree.join("kept")).expect("the program");
-    let (status, page, words) = given(command(&tree), CASE_1);
-    assert_eq!((status, page.as_str()), (0, PLAN_1), "{words}");
-    assert!(words.ends_with("plan: sheet proved (3 s)\n"), "{words}");
-    let tree = self::tree("exit 0");
-    fs::remove_file(tree.join("target/bin/sheet")).expect("the program");
+fn a_tree_without_the_crate() {
+    let tree = tree(UNCHANGED);
+    fs::remove_dir_all(tree.join("crates/sheet")).expect("a folder");
     let (status, page, words) = given(command(&tree), CASE_1);
     assert_eq!((status, page.as_str()), (2, ""));
-    assert!(words.ends_with("plan: the check left no program\n"), "{words}");
+    assert!(words.ends_with("plan: the tree has no crate sheet\n"), "{words}");
+}
+
+/// What an `rt` says that proves a crate.
+const PROVES: &str =
+    "printf '%s\\n' 'crate text: modules loaded=1 checked=2' 'logic=proved functions=3' >&2; ";
+
+#[test]
+fn progress_of_what_is_proved_afresh() {
+    let (status, page, words) = given(command(&tree(&[PROVES, UNCHANGED].concat())), CASE_1);
+    assert_eq!((status, page.as_str(), words.as_str()), (0, PLAN_1, "plan: text proved\n"));
+}
+
+#[test]
+fn a_program_that_is_built_first() {
+    let tree = tree(&[PROVES, "mv ../../kept out/sheet; ", UNCHANGED].concat());
+    let built = program(&tree, "sheet");
+    fs::remove_file(built.with_extension("stamp")).expect("a stamp");
+    fs::rename(built, tree.join("kept")).expect("the program");
+    let (status, page, words) = given(command(&tree), CASE_1);
+    assert_eq!((status, page.as_str()), (0, PLAN_1), "{words}");
+    let first =
+        "plan: the program is proved and built first; from nothing that takes some minutes\n";
+    assert_eq!(words, [first, "plan: text proved\n"].concat());
+}
+
+/// A program that is gone is built again, though its stamp says that it was built.
+#[test]
+fn a_program_that_was_removed() {
+    let builds = format!("[ -x out/sheet ] || {{ mv ../../kept out/sheet; {PROVES}}}; {UNCHANGED}");
+    let tree = tree(&builds);
+    fs::rename(program(&tree, "sheet"), tree.join("kept")).expect("the program");
+    let (status, page, words) = given(command(&tree), CASE_1);
+    assert_eq!((status, page.as_str(), words.as_str()), (0, PLAN_1, "plan: text proved\n"));
+    let tree = self::tree("exit 0");
+    fs::remove_file(program(&tree, "sheet")).expect("the program");
+    nothing_planned(given(command(&tree), CASE_1), "plan: the check left no program\n");
 }
 
 #[test]
@@ -263,8 +289,8 @@ fn a_program_that_ends_badly() {
         ("cat >/dev/null", "plan: the program printed nothing\n"),
     ] {
         let tree = tree(UNCHANGED);
-        fs::remove_file(tree.join("target/bin/sheet")).expect("the program");
-        script(&tree.join("target/bin/sheet"), lines);
+        fs::remove_file(program(&tree, "sheet")).expect("the program");
+        script(&program(&tree, "sheet"), lines);
         nothing_planned(given(command(&tree), CASE_1), words);
     }
 }

@@ -3,23 +3,16 @@
 
 use noughtelm_tests::both::shown;
 use noughtelm_tests::gen::text::served_of_length;
-use noughtelm_tests::program::{root, run};
+use noughtelm_tests::program::root;
 use noughtelm_tests::trial::*;
 use std::fs;
 use std::process::Command;
-use std::sync::Once;
 
 const PAGE_1: &str =
     "BAT KT   WORTH       GAIN\n  1  2      60          0\n  2  1      90          0\n";
 
 /// The tree's own ./plan with --page, with its program built.
 fn own_page(arguments: &[&str], text: &[u8]) -> Came {
-    static BUILT: Once = Once::new();
-    BUILT.call_once(|| {
-        let mut command = own();
-        command.arg("--page");
-        assert_eq!(came(run(command, CASE_1)).0, 0);
-    });
     own_with(&[&["--page"], arguments].concat(), text)
 }
 
@@ -133,7 +126,7 @@ fn a_page_that_is_misspelt() {
 /// What it runs is what the last check proved, as for a sheet.
 #[test]
 fn a_page_that_is_not_proved() {
-    let tree = tree("echo \"rt: $2 NOT PROVED\"; exit 1");
+    let tree = tree("echo \"rt: ${PWD##*/} NOT PROVED\" >&2; exit 1");
     let words =
         "rt: wall NOT PROVED\nplan: the program is not proved as the tree stands: no plan\n";
     nothing_planned(given(command_for_page(&tree), CASE_1), words);
@@ -148,8 +141,8 @@ fn a_page_by_a_program_that_ends_badly() {
         ("cat >/dev/null", "plan: the program printed nothing\n"),
     ] {
         let tree = tree(UNCHANGED);
-        fs::remove_file(tree.join("target/bin/wall")).expect("the program");
-        script(&tree.join("target/bin/wall"), lines);
+        fs::remove_file(program(&tree, "wall")).expect("the program");
+        script(&program(&tree, "wall"), lines);
         nothing_planned(given(command_for_page(&tree), CASE_1), words);
         assert_eq!(given(command(&tree), CASE_1), served());
     }
