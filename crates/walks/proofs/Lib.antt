@@ -1,2 +1,3 @@
 -- What the proofs by hand share.
 pub mod Walks
+pub mod Lent
