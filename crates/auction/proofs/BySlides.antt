@@ -8,8 +8,7 @@ use lib.ListN.{length}
 use Rattle.duality.specs.Lists.{cells}
 use Rattle.supply.specs.declared.record.Board.{Board}
 use Rattle.board.specs.declared.record.Edge.{Edge}
-use Rattle.auction.specs.declared.arrive.Arrived.{Arrived}
-use Rattle.auction.specs.declared.withdraw.Withdrawn.{Withdrawn}
+use Rattle.std.specs.Prelude.{Ok}
 use Rattle.supply.specs.Board.{auction_of, on_items}
 use Rattle.bidding.specs.Moves.{arrived_of}
 use Rattle.auction.specs.Arrive.{arrival, row_on, arrived_told}
@@ -29,14 +28,14 @@ quits-by-slides {b} {items} j = record { before = j.before; accepted = j.answers
 
 pub arrive-by-slides : ArriveBySlides
 arrive-by-slides b c edges n a =
-    arrive-all b edges (λ r. r.board ≡ c → r.answer ≡ Arrived.Bids n → ArrivesBySlides b edges c n)
+    arrive-all b edges (λ r. r.board ≡ c → r.answer ≡ Ok n → ArrivesBySlides b edges c n)
     (λ j e f. let k : j.after.settles.bids ≡ n = cc in subst₂ (λ c n. ArrivesBySlides b edges c n) e k (joins-by-slides j))
     (λ q e f. let z : ◌≡◌ {A = ℕ} 0 1 = cc in absurd (omega arith))
     _ a.outcome refl (arrived-bids a.answer n a.tells)
 
 pub withdraw-by-slides : WithdrawBySlides
 withdraw-by-slides b c items n a =
-    withdraw-all b items (λ r. r.board ≡ c → r.answer ≡ Withdrawn.Bids n → WithdrawsBySlides b items c n)
+    withdraw-all b items (λ r. r.board ≡ c → r.answer ≡ Ok n → WithdrawsBySlides b items c n)
     (λ j e f. let k : j.ends.bids ≡ n = cc in subst₂ (λ c n. WithdrawsBySlides b items c n) e k (quits-by-slides j))
     (λ q e f. let z : ◌≡◌ {A = ℕ} 0 1 = cc in absurd (omega arith))
     _ a.outcome refl (withdrawn-bids a.answer n a.tells)
@@ -60,9 +59,9 @@ to-slides _ _ _ (Reached.withdraws {b = b} {e = e} {n = n} items r t h) =
 from-slides : (b : Board) (e n : ℕ) → ReachedBySlides b e n → Reached b e n
 from-slides _ _ _ (ReachedBySlides.opens items p q counts h) = Reached.opens items p q counts h
 from-slides _ _ _ (ReachedBySlides.arrives {b = b} {c = c} {e = e} {n = n} {m = m} edges t a) =
-    Reached.arrives edges (arrival c (Arrived.Bids m)) (from-slides b e n t) a.accepted
+    Reached.arrives edges (arrival c (Ok m)) (from-slides b e n t) a.accepted
 from-slides _ _ _ (ReachedBySlides.withdraws {b = b} {c = c} {e = e} {n = n} {m = m} items t a) =
-    Reached.withdraws items (withdrawal c (Withdrawn.Bids m)) (from-slides b e n t) a.accepted
+    Reached.withdraws items (withdrawal c (Ok m)) (from-slides b e n t) a.accepted
 
 pub histories-by-slides : HistoriesBySlides
 histories-by-slides b e n = (to-slides b e n, from-slides b e n)

@@ -12,30 +12,23 @@ use Rattle.supply.specs.declared.record.Board.{Board}
 use Rattle.board.specs.declared.record.Edge.{Edge}
 use Rattle.refusals.specs.declared.Refusal.{Refusal}
 use Rattle.refusals.specs.declared.Refusal.TheVariants.{Full, Unknown, Gone, Worth, Order, Spoilt, Places}
-use Rattle.refusals.specs.declared.Verdict.{Verdict}
-use Rattle.refusals.specs.declared.Verdict.TheVariants.{Served, Refused}
 use Rattle.bidding.specs.Rule.{AfterChain, Outcome, done, spent}
-use Rattle.supply.specs.declared.opening.Opened.{Opened}
-use Rattle.auction.specs.declared.arrive.Arrived.{Arrived}
-use Rattle.auction.specs.declared.arrive.Arrival.{Arrival}
-use Rattle.auction.specs.declared.withdraw.Withdrawn.{Withdrawn}
-use Rattle.auction.specs.declared.withdraw.Withdrawal.{Withdrawal}
-use Rattle.auction.specs.declared.read_out.ReadOut.{ReadOut}
+use Rattle.std.specs.Prelude.{Result, Ok, Err}
+use Rattle.auction.specs.Arrive.{Arrival, ArriveMet, arrive_rest, arrive_checks, arrival_of, arrive_by, arrive_of}
+use Rattle.auction.specs.Withdraw.{Withdrawal, WithdrawMet, withdraw_rest, withdraw_checks, withdrawal_of, withdraw_by, withdraw_of}
 use Rattle.board.specs.Limits.{max_bidders, max_weight}
 use Rattle.supply.specs.ByItem.{withdrawn_at}
 use Rattle.supply.specs.declared.record.Items.{Items}
 use Rattle.supply.specs.Sound.{Sound}
 use Rattle.board.specs.Ranges.{Within, within_test}
 use Rattle.supply.specs.Board.{max_places, on_items}
-use Rattle.refusals.specs.Demand1.{first_of, Check, codes_of, Demand1}
+use Rattle.refusals.specs.Demand1.{first_of, Check, codes_of, Demand1, Verdict}
 use Rattle.refusals.specs.Each.{each_checks}
 use Rattle.auction.specs.Edges.{item_in, weight_in, order_test, edge_checks, edges_checks}
 use Rattle.auction.specs.Items.{item_checks, items_checks}
 use Rattle.supply.specs.Opening.{open_checks, open_by, open_of}
 use Rattle.auction.specs.ReadOut.{read_out_by, read_out_of}
 use Rattle.supply.specs.Lent.{read_out_checks}
-use Rattle.auction.specs.Arrive.{ArriveMet, arrive_rest, arrive_checks, arrival_of, arrive_by, arrive_of}
-use Rattle.auction.specs.Withdraw.{WithdrawMet, withdraw_rest, withdraw_checks, withdrawal_of, withdraw_by, withdraw_of}
 use Rattle.auction.specs.Demand1.{OpenDemand1, ArriveDemand1, WithdrawDemand1, ReadOutDemand1, entry_codes, item_codes, CallOrders}
 use Rattle.supply.proofs.Lending.{read-out-decided}
 use Rattle.supply.proofs.Openings.{open-decided}
@@ -56,20 +49,20 @@ open-demand-1 items p q counts =
     (λ r. (λ e. record { board = rw e; tells = rw e }, λ a. by-refused r (first_of (open_checks items p q counts)) (opened-refused _ r a.tells)))
     (λ e. record { board = rw e; tells = rw e }, λ a. by-ready (first_of (open_checks items p q counts)) (opened-ready _ a.tells))
   where
-    by-refused : (r : Refusal) (v : Verdict) → (open_by p q counts v).answer ≡ Opened.Refused r → v ≡ Refused r
-    by-refused r Served e = let z : ◌≡◌ {A = ℕ} 0 1 = cc in absurd (omega arith)
-    by-refused r (Refused s) e = let h : s ≡ r = cc in ap Refused h
+    by-refused : (r : Refusal) (v : Verdict) → (open_by p q counts v).answer ≡ Err r → v ≡ Err r
+    by-refused r (Ok tt) e = let z : ◌≡◌ {A = ℕ} 0 1 = cc in absurd (omega arith)
+    by-refused r (Err s) e = let h : s ≡ r = cc in ap Err h
 
-    by-ready : (v : Verdict) → (open_by p q counts v).answer ≡ Opened.Ready → v ≡ Served
-    by-ready Served e = refl
-    by-ready (Refused s) e = let z : ◌≡◌ {A = ℕ} 0 1 = cc in absurd (omega arith)
+    by-ready : (v : Verdict) → (open_by p q counts v).answer ≡ Ok tt → v ≡ Ok tt
+    by-ready (Ok tt) e = refl
+    by-ready (Err s) e = let z : ◌≡◌ {A = ℕ} 0 1 = cc in absurd (omega arith)
 
 -- ---- A call that runs a chain of bids where it serves: arrive and withdraw
 
 chain-demand-1 : {A : Type 0} {Met : Refusal → Type 0} {checks : List Check} (by : Verdict → Outcome A) (served : Board → ℕ → A) (refused : Refusal → A) →
     Decided Met checks →
-    ((r : Refusal) → by (Refused r) ≡ done (refused r)) →
-    ((a : A) → by Served ≡ done a → (c : Board) × (n : ℕ) × (a ≡ served c n)) →
+    ((r : Refusal) → by (Err r) ≡ done (refused r)) →
+    ((a : A) → by (Ok tt) ≡ done a → (c : Board) × (n : ℕ) × (a ≡ served c n)) →
     ((r s : Refusal) → refused r ≡ refused s → r ≡ s) →
     ((r : Refusal) (c : Board) (n : ℕ) → refused r ≡ served c n → ⊥) →
     (a : A) × (by (first_of checks) ≡ done a) →
@@ -79,21 +72,21 @@ chain-demand-1 {A} {Met} {checks} by served refused ds refuses bids same other f
     (λ r. (λ e. ap by e ∙ refuses r, λ e. by-refused r (first_of checks) e))
     (λ e. serve e, λ s. by-bids s.0 s.1 (first_of checks) s.2)
   where
-    by-refused : (r : Refusal) (v : Verdict) → by v ≡ done (refused r) → v ≡ Refused r
-    by-refused r Served e = let (c, n, h) = bids (refused r) e in absurd (other r c n h)
-    by-refused r (Refused s) e =
+    by-refused : (r : Refusal) (v : Verdict) → by v ≡ done (refused r) → v ≡ Err r
+    by-refused r (Ok tt) e = let (c, n, h) = bids (refused r) e in absurd (other r c n h)
+    by-refused r (Err s) e =
         let d : done (refused s) ≡ done (refused r) = sym (refuses s) ∙ e in
         let f : refused s ≡ refused r = cc in
-        ap Refused (same s r f)
+        ap Err (same s r f)
 
-    by-bids : (c : Board) (n : ℕ) (v : Verdict) → by v ≡ done (served c n) → v ≡ Served
-    by-bids c n Served e = refl
-    by-bids c n (Refused s) e =
+    by-bids : (c : Board) (n : ℕ) (v : Verdict) → by v ≡ done (served c n) → v ≡ Ok tt
+    by-bids c n (Ok tt) e = refl
+    by-bids c n (Err s) e =
         let d : done (refused s) ≡ done (served c n) = sym (refuses s) ∙ e in
         let f : refused s ≡ served c n = cc in
         absurd (other s c n f)
 
-    serve : first_of checks ≡ Served → (c : Board) × (n : ℕ) × (by (first_of checks) ≡ done (served c n))
+    serve : first_of checks ≡ Ok tt → (c : Board) × (n : ℕ) × (by (first_of checks) ≡ done (served c n))
     serve e =
         let (a, h) = finished in
         let (c, n, g) = bids a (sym (ap by e) ∙ h) in
@@ -143,30 +136,30 @@ module _ (b : Board) (edges : List Edge) where
       (next (reword (le-decides max_bidders b.market.arrived) (λ l. ArriveMet.full l) full-met)
       (cells-decided _ (length edges) edge-decided))
 
-abbrev arrival : Board → Arrived → Arrival
+abbrev arrival : Board → Result ℕ Refusal → Arrival
 arrival c a = record { board = c; answer = a }
 
 -- What comes of a chain is a number of bids, if anything
-arrival-bids : (items : Items) (o : Outcome AfterChain) (a : Arrival) → arrival_of items o ≡ done a → (n : ℕ) × (a.answer ≡ Arrived.Bids n)
+arrival-bids : (items : Items) (o : Outcome AfterChain) (a : Arrival) → arrival_of items o ≡ done a → (n : ℕ) × (a.answer ≡ Ok n)
 unfolding arrival_of
 arrival-bids items spent a e = let z : ◌≡◌ {A = ℕ} 0 1 = cc in absurd (omega arith)
-arrival-bids items (done s) a e = (s.bids, let h : arrival (on_items items s.auction) (Arrived.Bids s.bids) ≡ a = cc in sym (ap (λ x. x.answer) h))
+arrival-bids items (done s) a e = (s.bids, let h : arrival (on_items items s.auction) (Ok s.bids) ≡ a = cc in sym (ap (λ x. x.answer) h))
 
 pub arrive-demand-1 : ArriveDemand1
 unfolding arrive_of arrive_by
 arrive-demand-1 b edges =
     demand-1-as
-    (chain-demand-1 (arrive_by b edges) (λ c n. arrival c (Arrived.Bids n)) (λ r. arrival b (Arrived.Refused r)) (arrive-decided b edges)
+    (chain-demand-1 (arrive_by b edges) (λ c n. arrival c (Ok n)) (λ r. arrival b (Err r)) (arrive-decided b edges)
     (λ r. refl) bids
-    (λ r s e. let f : Arrived.Refused r ≡ Arrived.Refused s = ap (λ x. x.answer) e in cc)
-    (λ r c n e. let f : Arrived.Refused r ≡ Arrived.Bids n = ap (λ x. x.answer) e in let z : ◌≡◌ {A = ℕ} 0 1 = cc in omega arith)
+    (λ r s e. let f : Err r ≡ Err s = ap (λ x. x.answer) e in cc)
+    (λ r c n e. let f : Err r ≡ Ok n = ap (λ x. x.answer) e in let z : ◌≡◌ {A = ℕ} 0 1 = cc in omega arith)
     (arrive_ends b edges))
-    (λ r. (λ e. record { answer = Arrived.Refused r; outcome = e; tells = refl }, λ a. a.outcome ∙ ap (λ x. done (arrival b x)) (arrived_refused a.answer r a.tells))) (
-      λ s. (s.0, s.1, record { answer = Arrived.Bids s.1; outcome = s.2; tells = refl }),
+    (λ r. (λ e. record { answer = Err r; outcome = e; tells = refl }, λ a. a.outcome ∙ ap (λ x. done (arrival b x)) (arrived_refused a.answer r a.tells))) (
+      λ s. (s.0, s.1, record { answer = Ok s.1; outcome = s.2; tells = refl }),
       λ s. (s.0, s.1, s.2.outcome ∙ ap (λ x. done (arrival s.0 x)) (arrived-bids s.2.answer s.1 s.2.tells)),
     )
   where
-    bids : (a : Arrival) → arrive_by b edges Served ≡ done a → (c : Board) × (n : ℕ) × (a ≡ arrival c (Arrived.Bids n))
+    bids : (a : Arrival) → arrive_by b edges (Ok tt) ≡ done a → (c : Board) × (n : ℕ) × (a ≡ arrival c (Ok n))
     bids a e = let (n, h) = arrival-bids b.items _ a e in (a.board, n, rw (← h) refl)
 
 -- ---- Withdraw
@@ -203,30 +196,30 @@ module _ (b : Board) (items : List ℕ) where
   withdraw-decided =
       next (reword (no-decides (sound-decides b)) (λ f. WithdrawMet.spoilt f) withdraw-unsound) (cells-decided _ (length items) item-decided)
 
-abbrev withdrawal : Board → Withdrawn → Withdrawal
+abbrev withdrawal : Board → Result ℕ Refusal → Withdrawal
 withdrawal c a = record { board = c; answer = a }
 
 -- What comes of a chain is a number of bids, if anything
-withdrawal-bids : (known : Items) (o : Outcome AfterChain) (a : Withdrawal) → withdrawal_of known o ≡ done a → (n : ℕ) × (a.answer ≡ Withdrawn.Bids n)
+withdrawal-bids : (known : Items) (o : Outcome AfterChain) (a : Withdrawal) → withdrawal_of known o ≡ done a → (n : ℕ) × (a.answer ≡ Ok n)
 unfolding withdrawal_of
 withdrawal-bids known spent a e = let z : ◌≡◌ {A = ℕ} 0 1 = cc in absurd (omega arith)
-withdrawal-bids known (done s) a e = (s.bids, let h : withdrawal (on_items known s.auction) (Withdrawn.Bids s.bids) ≡ a = cc in sym (ap (λ x. x.answer) h))
+withdrawal-bids known (done s) a e = (s.bids, let h : withdrawal (on_items known s.auction) (Ok s.bids) ≡ a = cc in sym (ap (λ x. x.answer) h))
 
 pub withdraw-demand-1 : WithdrawDemand1
 unfolding withdraw_of withdraw_by
 withdraw-demand-1 b items =
     demand-1-as
-    (chain-demand-1 (withdraw_by b items) (λ c n. withdrawal c (Withdrawn.Bids n)) (λ r. withdrawal b (Withdrawn.Refused r)) (withdraw-decided b items)
+    (chain-demand-1 (withdraw_by b items) (λ c n. withdrawal c (Ok n)) (λ r. withdrawal b (Err r)) (withdraw-decided b items)
     (λ r. refl) bids
-    (λ r s e. let f : Withdrawn.Refused r ≡ Withdrawn.Refused s = ap (λ x. x.answer) e in cc)
-    (λ r c n e. let f : Withdrawn.Refused r ≡ Withdrawn.Bids n = ap (λ x. x.answer) e in let z : ◌≡◌ {A = ℕ} 0 1 = cc in omega arith)
+    (λ r s e. let f : Err r ≡ Err s = ap (λ x. x.answer) e in cc)
+    (λ r c n e. let f : Err r ≡ Ok n = ap (λ x. x.answer) e in let z : ◌≡◌ {A = ℕ} 0 1 = cc in omega arith)
     (withdraw_ends b items))
-    (λ r. (λ e. record { answer = Withdrawn.Refused r; outcome = e; tells = refl }, λ a. a.outcome ∙ ap (λ x. done (withdrawal b x)) (withdrawn_refused a.answer r a.tells))) (
-      λ s. (s.0, s.1, record { answer = Withdrawn.Bids s.1; outcome = s.2; tells = refl }),
+    (λ r. (λ e. record { answer = Err r; outcome = e; tells = refl }, λ a. a.outcome ∙ ap (λ x. done (withdrawal b x)) (withdrawn_refused a.answer r a.tells))) (
+      λ s. (s.0, s.1, record { answer = Ok s.1; outcome = s.2; tells = refl }),
       λ s. (s.0, s.1, s.2.outcome ∙ ap (λ x. done (withdrawal s.0 x)) (withdrawn-bids s.2.answer s.1 s.2.tells)),
     )
   where
-    bids : (a : Withdrawal) → withdraw_by b items Served ≡ done a → (c : Board) × (n : ℕ) × (a ≡ withdrawal c (Withdrawn.Bids n))
+    bids : (a : Withdrawal) → withdraw_by b items (Ok tt) ≡ done a → (c : Board) × (n : ℕ) × (a ≡ withdrawal c (Ok n))
     bids a e = let (n, h) = withdrawal-bids b.items _ a e in (a.board, n, rw (← h) refl)
 
 -- ---- Read out
@@ -238,13 +231,13 @@ read-out-demand-1 b l =
     (λ r. (λ e. record { lists = rw e; tells = rw e }, λ a. by-refused r (first_of (read_out_checks b l)) (read-refused _ r a.tells)))
     (λ e. (_, record { lists = refl; tells = rw e }), λ a. by_written (first_of (read_out_checks b l)) (read-written _ a.1.tells))
   where
-    by-refused : (r : Refusal) (v : Verdict) → (read_out_by b l v).answer ≡ ReadOut.Refused r → v ≡ Refused r
-    by-refused r Served e = let z : ◌≡◌ {A = ℕ} 0 1 = cc in absurd (omega arith)
-    by-refused r (Refused s) e = let h : s ≡ r = cc in ap Refused h
+    by-refused : (r : Refusal) (v : Verdict) → (read_out_by b l v).answer ≡ Err r → v ≡ Err r
+    by-refused r (Ok tt) e = let z : ◌≡◌ {A = ℕ} 0 1 = cc in absurd (omega arith)
+    by-refused r (Err s) e = let h : s ≡ r = cc in ap Err h
 
-    by_written : (v : Verdict) → (read_out_by b l v).answer ≡ ReadOut.Written → v ≡ Served
-    by_written Served e = refl
-    by_written (Refused s) e = let z : ◌≡◌ {A = ℕ} 0 1 = cc in absurd (omega arith)
+    by_written : (v : Verdict) → (read_out_by b l v).answer ≡ Ok tt → v ≡ Ok tt
+    by_written (Ok tt) e = refl
+    by_written (Err s) e = let z : ◌≡◌ {A = ℕ} 0 1 = cc in absurd (omega arith)
 
 -- ---- The order of the checks
 

@@ -18,12 +18,9 @@ use Rattle.board.specs.declared.record.Market.{Market}
 use Rattle.supply.specs.declared.record.Board.{Board}
 use Rattle.board.specs.declared.record.Edge.{Edge}
 use Rattle.refusals.specs.declared.Refusal.{Refusal}
-use Rattle.refusals.specs.declared.Verdict.{Verdict}
-use Rattle.refusals.specs.declared.Verdict.TheVariants.{Served, Refused}
-use Rattle.auction.specs.declared.arrive.Arrived.{Arrived}
-use Rattle.auction.specs.declared.arrive.Arrival.{Arrival}
-use Rattle.auction.specs.declared.withdraw.Withdrawn.{Withdrawn}
-use Rattle.auction.specs.declared.withdraw.Withdrawal.{Withdrawal}
+use Rattle.std.specs.Prelude.{Ok, Err}
+use Rattle.auction.specs.Arrive.{Arrival, row_on, arrive_checks, arrival_of, arrive_by, arrive_of, ArriveAnswers}
+use Rattle.auction.specs.Withdraw.{Withdrawal, places_on, withdraw_checks, withdrawal_of, withdraw_by, withdraw_of, WithdrawAnswers}
 use Rattle.board.specs.Limits.{max_bidders}
 use Rattle.board.specs.Cells.{flag_at, holder_at}
 use Rattle.board.specs.Cells as place
@@ -35,13 +32,11 @@ use Rattle.supply.specs.Spread.{Listable}
 use Rattle.supply.specs.Sound.{Sound}
 use Rattle.bidding.specs.Rule.{done}
 use Rattle.refusals.specs.Told.{served, refused}
-use Rattle.refusals.specs.Demand1.{first_of}
+use Rattle.refusals.specs.Demand1.{first_of, Verdict}
 use Rattle.auction.specs.Edges.{item_in, weight_in, row_to}
-use Rattle.auction.specs.Arrive.{row_on, arrive_checks, arrival_of, arrive_by, arrive_of, ArriveAnswers}
 use Rattle.bidding.specs.Moves.{arrived_of, entered}
 use Rattle.bidding.specs.Withdrawals.{vacated_to, named_in}
 use Rattle.bidding.specs.WithdrawalLaws.{Listed, WithdrawalEnds}
-use Rattle.auction.specs.Withdraw.{places_on, withdraw_checks, withdrawal_of, withdraw_by, withdraw_of, WithdrawAnswers}
 use Rattle.bidding.specs.Waiting.{SoundBut, Nobody, RowFits}
 use Rattle.bidding.specs.RuleLaws.{Settles, Ends}
 use Rattle.auction.specs.Demand2.{ArriveEnds, WithdrawEnds, Arrives, ArriveDemand2, Withdraws, WithdrawDemand2, SoundDemand2}
@@ -107,7 +102,7 @@ pub record Joins (b : Board) (edges : List Edge) : Type 0 where
   pub accepted : EdgesAccepted b.items.count (withdrawn_at b) (item_in edges) (weight_in edges) (length edges)
   pub after : Settlement (joined b edges) b.market.arrived
   pub sound : Sound (on_items b.items after.settles.board)
-  pub answers : arrive_of b edges ≡ done (record { board = on_items b.items after.settles.board; answer = Arrived.Bids after.settles.bids })
+  pub answers : arrive_of b edges ≡ done (record { board = on_items b.items after.settles.board; answer = Ok after.settles.bids })
 
 -- The board after the new bidder's chain
 joined-sound : (b : Board) (edges : List Edge) → Sound b → b.market.arrived < max_bidders → (t : Settlement (joined b edges) b.market.arrived) →
@@ -122,7 +117,7 @@ joined-sound b edges h room t =
       alike = λ s l. kept-alike b.items (joined b edges) t.settles.board m (chain-weights t.settles.chain) s (joined-alike b h (row_of edges) room s (rw same at l));
     }
 
-pub joins : (b : Board) (edges : List Edge) → first_of (arrive_checks b edges) ≡ Served → Joins b edges
+pub joins : (b : Board) (edges : List Edge) → first_of (arrive_checks b edges) ≡ Ok tt → Joins b edges
 unfolding arrive_of arrive_by arrived_of arrival_of
 joins b edges e =
     let u = served-next _ _ e in
@@ -134,38 +129,38 @@ joins b edges e =
 
 -- The two kinds of answer
 module _ (b : Board) (edges : List Edge) where
-  refused-arrival : (q : Refusal) → first_of (arrive_checks b edges) ≡ Refused q → arrive_of b edges ≡ done (record { board = b; answer = Arrived.Refused q })
+  refused-arrival : (q : Refusal) → first_of (arrive_checks b edges) ≡ Err q → arrive_of b edges ≡ done (record { board = b; answer = Err q })
   unfolding arrive_of arrive_by
   refused-arrival q e = rw e
 
   -- What holds of both holds of the answer
   pub arrive-all : (P : Arrival → Type 0) →
-      ((j : Joins b edges) → P (record { board = on_items b.items j.after.settles.board; answer = Arrived.Bids j.after.settles.bids })) →
-      ((q : Refusal) → P (record { board = b; answer = Arrived.Refused q })) → (r : Arrival) → arrive_of b edges ≡ done r → P r
+      ((j : Joins b edges) → P (record { board = on_items b.items j.after.settles.board; answer = Ok j.after.settles.bids })) →
+      ((q : Refusal) → P (record { board = b; answer = Err q })) → (r : Arrival) → arrive_of b edges ≡ done r → P r
   arrive-all P f g r h = go (first_of (arrive_checks b edges)) refl
     where
       go : (v : Verdict) → first_of (arrive_checks b edges) ≡ v → P r
-      go Served e = let j = joins b edges e in same-done P (sym j.answers ∙ h) (f j)
-      go (Refused q) e = same-done P (sym (refused-arrival q e) ∙ h) (g q)
+      go (Ok tt) e = let j = joins b edges e in same-done P (sym j.answers ∙ h) (f j)
+      go (Err q) e = same-done P (sym (refused-arrival q e) ∙ h) (g q)
 
 pub arrive_ends : ArriveEnds
 arrive_ends b edges = go (first_of (arrive_checks b edges)) refl
   where
     go : (v : Verdict) → first_of (arrive_checks b edges) ≡ v → (r : Arrival) × (arrive_of b edges ≡ done r)
-    go Served e = (_, (joins b edges e).answers)
-    go (Refused q) e = (_, refused-arrival b edges q e)
+    go (Ok tt) e = (_, (joins b edges e).answers)
+    go (Err q) e = (_, refused-arrival b edges q e)
 
 -- An arrival serves, or refuses and leaves the board
 pub arrive-either : (b : Board) (edges : List Edge) → ((c : Board) × (n : ℕ) × ArriveAnswers b edges c (served n)) ⊎ ((r : Refusal) × ArriveAnswers b edges b (refused r))
 arrive-either b edges = go (first_of (arrive_checks b edges)) refl
   where
     go : (v : Verdict) → first_of (arrive_checks b edges) ≡ v → ((c : Board) × (n : ℕ) × ArriveAnswers b edges c (served n)) ⊎ ((r : Refusal) × ArriveAnswers b edges b (refused r))
-    go Served e = inl (_, _, record { answer = Arrived.Bids _; outcome = (joins b edges e).answers; tells = refl })
-    go (Refused q) e = inr (q, record { answer = Arrived.Refused q; outcome = refused-arrival b edges q e; tells = refl })
+    go (Ok tt) e = inl (_, _, record { answer = Ok _; outcome = (joins b edges e).answers; tells = refl })
+    go (Err q) e = inr (q, record { answer = Err q; outcome = refused-arrival b edges q e; tells = refl })
 
 pub arrive-demand-2 : ArriveDemand2
 arrive-demand-2 b c edges n a =
-    arrive-all b edges (λ r. r.board ≡ c → r.answer ≡ Arrived.Bids n → Arrives b edges c n)
+    arrive-all b edges (λ r. r.board ≡ c → r.answer ≡ Ok n → Arrives b edges c n)
     (λ j e f. let k : j.after.settles.bids ≡ n = cc in subst₂ (λ c n. Arrives b edges c n) e k (arrives j))
     (λ q e f. let z : ◌≡◌ {A = ℕ} 0 1 = cc in absurd (omega arith))
     _ a.outcome refl (arrived-bids a.answer n a.tells)
@@ -196,7 +191,7 @@ pub record Quits (b : Board) (items : List ℕ) : Type 0 where
   pub listed : Listed (auction_of b) (cells (places_for b items)) (length (places_for b items))
   pub ends : WithdrawalEnds (auction_of b) (cells (places_for b items)) (length (places_for b items))
   pub sound : Sound (on_items b.items ends.board)
-  pub answers : withdraw_of b items ≡ done (record { board = on_items b.items ends.board; answer = Withdrawn.Bids ends.bids })
+  pub answers : withdraw_of b items ≡ done (record { board = on_items b.items ends.board; answer = Ok ends.bids })
 
 -- The board after the chains of those who held a place
 quit-sound : (b : Board) (items : List ℕ) (h : Sound b) → Listable b.items (cells items) (length items) →
@@ -229,7 +224,7 @@ quit-sound b items h can listed w =
           };
     }
 
-pub quits : (b : Board) (items : List ℕ) → first_of (withdraw_checks b items) ≡ Served → Quits b items
+pub quits : (b : Board) (items : List ℕ) → first_of (withdraw_checks b items) ≡ Ok tt → Quits b items
 unfolding withdraw_of withdraw_by withdrawal_of
 quits b items e =
     let u = served-next _ _ e in
@@ -241,37 +236,37 @@ quits b items e =
     record { before = s; listable = can; listed = k; ends = w; sound = quit-sound b items s can k w; answers = rw (e, w.computed) }
 
 module _ (b : Board) (items : List ℕ) where
-  refused-withdrawal : (q : Refusal) → first_of (withdraw_checks b items) ≡ Refused q → withdraw_of b items ≡ done (record { board = b; answer = Withdrawn.Refused q })
+  refused-withdrawal : (q : Refusal) → first_of (withdraw_checks b items) ≡ Err q → withdraw_of b items ≡ done (record { board = b; answer = Err q })
   unfolding withdraw_of withdraw_by
   refused-withdrawal q e = rw e
 
   pub withdraw-all : (P : Withdrawal → Type 0) →
-      ((j : Quits b items) → P (record { board = on_items b.items j.ends.board; answer = Withdrawn.Bids j.ends.bids })) →
-      ((q : Refusal) → P (record { board = b; answer = Withdrawn.Refused q })) → (r : Withdrawal) → withdraw_of b items ≡ done r → P r
+      ((j : Quits b items) → P (record { board = on_items b.items j.ends.board; answer = Ok j.ends.bids })) →
+      ((q : Refusal) → P (record { board = b; answer = Err q })) → (r : Withdrawal) → withdraw_of b items ≡ done r → P r
   withdraw-all P f g r h = go (first_of (withdraw_checks b items)) refl
     where
       go : (v : Verdict) → first_of (withdraw_checks b items) ≡ v → P r
-      go Served e = let j = quits b items e in same-done P (sym j.answers ∙ h) (f j)
-      go (Refused q) e = same-done P (sym (refused-withdrawal q e) ∙ h) (g q)
+      go (Ok tt) e = let j = quits b items e in same-done P (sym j.answers ∙ h) (f j)
+      go (Err q) e = same-done P (sym (refused-withdrawal q e) ∙ h) (g q)
 
 pub withdraw_ends : WithdrawEnds
 withdraw_ends b items = go (first_of (withdraw_checks b items)) refl
   where
     go : (v : Verdict) → first_of (withdraw_checks b items) ≡ v → (r : Withdrawal) × (withdraw_of b items ≡ done r)
-    go Served e = (_, (quits b items e).answers)
-    go (Refused q) e = (_, refused-withdrawal b items q e)
+    go (Ok tt) e = (_, (quits b items e).answers)
+    go (Err q) e = (_, refused-withdrawal b items q e)
 
 -- A withdrawal serves, or refuses and leaves the board
 pub withdraw-either : (b : Board) (items : List ℕ) → ((c : Board) × (n : ℕ) × WithdrawAnswers b items c (served n)) ⊎ ((r : Refusal) × WithdrawAnswers b items b (refused r))
 withdraw-either b items = go (first_of (withdraw_checks b items)) refl
   where
     go : (v : Verdict) → first_of (withdraw_checks b items) ≡ v → ((c : Board) × (n : ℕ) × WithdrawAnswers b items c (served n)) ⊎ ((r : Refusal) × WithdrawAnswers b items b (refused r))
-    go Served e = inl (_, _, record { answer = Withdrawn.Bids _; outcome = (quits b items e).answers; tells = refl })
-    go (Refused q) e = inr (q, record { answer = Withdrawn.Refused q; outcome = refused-withdrawal b items q e; tells = refl })
+    go (Ok tt) e = inl (_, _, record { answer = Ok _; outcome = (quits b items e).answers; tells = refl })
+    go (Err q) e = inr (q, record { answer = Err q; outcome = refused-withdrawal b items q e; tells = refl })
 
 pub withdraw-demand-2 : WithdrawDemand2
 withdraw-demand-2 b c items n a =
-    withdraw-all b items (λ r. r.board ≡ c → r.answer ≡ Withdrawn.Bids n → Withdraws b items c n)
+    withdraw-all b items (λ r. r.board ≡ c → r.answer ≡ Ok n → Withdraws b items c n)
     (λ j e f. let k : j.ends.bids ≡ n = cc in subst₂ (λ c n. Withdraws b items c n) e k (withdraws j))
     (λ q e f. let z : ◌≡◌ {A = ℕ} 0 1 = cc in absurd (omega arith))
     _ a.outcome refl (withdrawn-bids a.answer n a.tells)

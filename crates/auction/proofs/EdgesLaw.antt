@@ -1,4 +1,5 @@
 -- What it says that an arrival's edges, or a withdrawal's items, are served; and the row that the edges make.
+use Rattle.std.specs.Prelude.{Ok}
 use mathlib.Core.Path.{◌≡◌, refl, ap, ◌∙◌}
 use mathlib.Core.Bool.{Bool, false}
 use mathlib.Core.List.{List, [], ◌∷◌}
@@ -13,7 +14,6 @@ use Rattle.duality.proofs.Sums.{sum_to-eq, sum_to-zero, sum_to-upd, upd-all}
 use Rattle.duality.specs.Lists.{cells}
 use Rattle.supply.specs.declared.record.Board.{Board}
 use Rattle.board.specs.declared.record.Edge.{Edge}
-use Rattle.refusals.specs.declared.Verdict.TheVariants.{Served}
 use Rattle.board.specs.Limits.{max_items, max_bidders, max_weight}
 use Rattle.supply.specs.ByItem.{withdrawn_at}
 use Rattle.bidding.specs.Potential.{one}
@@ -44,7 +44,7 @@ edges-items a = record { known = a.known; here = a.here; rising = a.rising }
 
 module _ (items : ℕ) (withdrawn : ℕ → Bool) (item weight : ℕ → ℕ) where
   -- What is served of one edge
-  served-edge : (i : ℕ) → first_of (edge_checks items withdrawn item weight i) ≡ Served → ItemServed items withdrawn item i × Within 1 max_weight (weight i)
+  served-edge : (i : ℕ) → first_of (edge_checks items withdrawn item weight i) ≡ Ok tt → ItemServed items withdrawn item i × Within 1 max_weight (weight i)
   unfolding edge_checks
   served-edge i e =
       let a = served-next _ _ e in
@@ -55,19 +55,19 @@ module _ (items : ℕ) (withdrawn : ℕ → Bool) (item weight : ℕ → ℕ) wh
         (within-decides max_weight (weight i)).sound (not-false _ c.0),
       )
 
-  pub served-edges : (n : ℕ) → first_of (edges_checks items withdrawn item weight 0 n) ≡ Served → EdgesAccepted items withdrawn item weight n
+  pub served-edges : (n : ℕ) → first_of (edges_checks items withdrawn item weight 0 n) ≡ Ok tt → EdgesAccepted items withdrawn item weight n
   served-edges n e =
       let each : (i : ℕ) → i < n → ItemServed items withdrawn item i × Within 1 max_weight (weight i) =
       λ i l. served-edge i (each-served _ 0 n e i (omega arith) (omega arith)) in
       let a = accepted items withdrawn item n (λ i l. (each i l).0) in
       record { known = a.known; here = a.here; weighed = λ i l. (each i l).1; rising = a.rising }
 
-pub served-arrival : (b : Board) (edges : List Edge) → first_of (arrive_rest b edges) ≡ Served →
+pub served-arrival : (b : Board) (edges : List Edge) → first_of (arrive_rest b edges) ≡ Ok tt →
     (b.market.arrived < max_bidders) × EdgesAccepted b.items.count (withdrawn_at b) (item_in edges) (weight_in edges) (length edges)
 unfolding arrive_rest
 served-arrival b edges e = let u = served-next _ _ e in (leb-false _ _ u.0, served-edges b.items.count (withdrawn_at b) _ _ _ u.1)
 
-pub served-withdrawal : (b : Board) (items : List ℕ) → first_of (withdraw_rest b items) ≡ Served →
+pub served-withdrawal : (b : Board) (items : List ℕ) → first_of (withdraw_rest b items) ≡ Ok tt →
     ItemsAccepted b.items.count (withdrawn_at b) (cells items) (length items)
 unfolding withdraw_rest
 served-withdrawal b items e = served-items b.items.count (withdrawn_at b) (cells items) (length items) e

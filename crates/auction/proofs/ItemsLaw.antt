@@ -1,4 +1,5 @@
 -- A list of items, tested one by one: what it says that all are served, and how many decide.
+use Rattle.std.specs.Prelude.{Err, Ok}
 use mathlib.Core.Path.{◌≡◌, sym, ◌∙◌}
 use mathlib.Core.Bool.{Bool, false}
 use Prim.Native.Nat.{ℕ, zero, suc, ◌-◌, ◌≤◌, ◌<◌}
@@ -6,7 +7,6 @@ use native.Mathlib.Omega.{arith}
 use borrow.Author.Tests.{leb-false, not-false}
 use Rattle.duality.proofs.Below.{one_more}
 use Rattle.refusals.specs.declared.Refusal.{Refusal}
-use Rattle.refusals.specs.declared.Verdict.TheVariants.{Served, Refused}
 use Rattle.board.specs.Limits.{max_items, max_edges}
 use Rattle.refusals.specs.Demand1.{first_of}
 use Rattle.board.specs.Ranges.{Within}
@@ -34,7 +34,7 @@ module _ (items : ℕ) (withdrawn : ℕ → Bool) (item : ℕ → ℕ) where
   unfolding order_test
   accepted n s = record { known = λ i l. (s i l).known; here = λ i l. (s i l).here; rising = λ i l. leb-false _ _ (s (suc i) l).ordered }
 
-  served-item : (i : ℕ) → first_of (item_checks items withdrawn item i) ≡ Served → ItemServed i
+  served-item : (i : ℕ) → first_of (item_checks items withdrawn item i) ≡ Ok tt → ItemServed i
   unfolding item_checks
   served-item i e =
       let a = served-next _ _ e in
@@ -42,7 +42,7 @@ module _ (items : ℕ) (withdrawn : ℕ → Bool) (item : ℕ → ℕ) where
       let c = served-next _ _ b.1 in
       record { known = (within-decides items (item i)).sound (not-false _ a.0); here = b.0; ordered = c.0 }
 
-  pub served-items : (n : ℕ) → first_of (items_checks items withdrawn item 0 n) ≡ Served → ItemsAccepted items withdrawn item n
+  pub served-items : (n : ℕ) → first_of (items_checks items withdrawn item 0 n) ≡ Ok tt → ItemsAccepted items withdrawn item n
   served-items n e = accepted n (λ i l. served-item i (each-served _ 0 n e i (omega arith) (omega arith)))
 
 -- ---- Rising
@@ -71,7 +71,7 @@ module _ (items : ℕ) (withdrawn : ℕ → Bool) where
 
   module _ (item : ℕ → ℕ) (h : items ≤ max_items) where
     -- One of the first 65 items is refused
-    pub first-refused : (r : Refusal) × (first_of (items_checks items withdrawn item 0 max_edges) ≡ Refused r)
+    pub first-refused : (r : Refusal) × (first_of (items_checks items withdrawn item 0 max_edges) ≡ Err r)
     first-refused = unserved _ (λ e. too_many (served-items items withdrawn item max_edges e) h (omega arith))
 
     -- What comes after them is not looked at

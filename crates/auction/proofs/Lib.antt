@@ -5,14 +5,11 @@ pub mod CallVerdicts
 pub mod Demand1
 pub mod Demand2
 pub mod EdgeTests
-pub mod EdgeVerdicts
 pub mod EdgesLaw
 pub mod EnoughEdges
 pub mod EnoughItems
 pub mod Entries
-pub mod Gathered
 pub mod Histories
-pub mod ItemVerdicts
 pub mod ItemsLaw
 pub mod Lasting
 pub mod Naming
@@ -20,4 +17,5 @@ pub mod OneItem
 pub mod Opening
 pub mod ReadOuts
 pub mod Rows
+pub mod Sounding
 pub mod Told

@@ -7,8 +7,8 @@ use native.Mathlib.Omega.{arith}
 use Rattle.duality.specs.Lists.{cells}
 use Rattle.supply.specs.declared.record.Board.{Board}
 use Rattle.refusals.specs.declared.Refusal.TheVariants.{Unknown, Gone, Spoilt}
-use Rattle.auction.specs.declared.withdraw.Withdrawn.{Withdrawn}
-use Rattle.auction.specs.declared.withdraw.Withdrawal.{Withdrawal}
+use Rattle.std.specs.Prelude.{Ok, Err}
+use Rattle.auction.specs.Withdraw.{Withdrawal, withdrawal, places_on, withdraw_rest, withdrawal_of, withdraw_by, withdraw_of}
 use Rattle.refusals.specs.Each.{each_checks}
 use Rattle.refusals.specs.Demand1.{first_of}
 use Rattle.supply.specs.ByItem.{withdrawn_at}
@@ -25,7 +25,6 @@ use Rattle.bidding.specs.Withdrawals.{withdrawn_of}
 use Rattle.bidding.proofs.Withdrawing.{empty-list, list-of-one, withdrawn-is-chains}
 use Rattle.auction.specs.Edges.{order_test}
 use Rattle.auction.specs.Items.{item_checks}
-use Rattle.auction.specs.Withdraw.{withdrawal, places_on, withdraw_rest, withdrawal_of, withdraw_by, withdraw_of}
 use Rattle.auction.specs.OneItem.{withdraw_one_checks, withdraw_one_by, withdraw_one_of, SameButPlace, OneAsBefore, NoneChanged}
 
 abbrev Alike : Board → ℕ → Type 0
@@ -35,19 +34,19 @@ module _ (b : Board) (item : ℕ) (single : Within 1 b.items.count item → plac
   spoilt : sound_test b ≡ false → Alike b item
   unfolding withdraw_of withdraw_by first_of withdraw_one_checks withdraw_one_by
   spoilt e =
-      (withdrawal b (Withdrawn.Refused Spoilt), withdrawal b (Withdrawn.Refused Spoilt), rw e refl, rw e refl, record { board = refl; number = refl; value = refl })
+      (withdrawal b (Err Spoilt), withdrawal b (Err Spoilt), rw e refl, rw e refl, record { board = refl; number = refl; value = refl })
 
   module _ (s : sound_test b ≡ true) where
     unknown : within_test b.items.count item ≡ false → Alike b item
     unfolding withdraw_of withdraw_by withdraw_rest item_checks each_checks first_of withdraw_one_checks withdraw_one_by
     unknown e =
-        (withdrawal b (Withdrawn.Refused (Unknown 1)), withdrawal b (Withdrawn.Refused (Unknown 0)), rw (s, e) refl, rw (s, e) refl, record { board = refl; number = refl; value = refl })
+        (withdrawal b (Err (Unknown 1)), withdrawal b (Err (Unknown 0)), rw (s, e) refl, rw (s, e) refl, record { board = refl; number = refl; value = refl })
 
     module _ (e : within_test b.items.count item ≡ true) where
       gone : withdrawn_at b (item - 1) ≡ true → Alike b item
       unfolding withdraw_of withdraw_by withdraw_rest item_checks each_checks first_of withdraw_one_checks withdraw_one_by
       gone f =
-          (withdrawal b (Withdrawn.Refused (Gone 1)), withdrawal b (Withdrawn.Refused (Gone 0)), rw (s, e, f) refl, rw (s, e, f) refl, record { board = refl; number = refl; value = refl })
+          (withdrawal b (Err (Gone 1)), withdrawal b (Err (Gone 0)), rw (s, e, f) refl, rw (s, e, f) refl, record { board = refl; number = refl; value = refl })
 
       leaves : withdrawn_at b (item - 1) ≡ false → Alike b item
       unfolding withdraw_of withdraw_by withdraw_rest item_checks each_checks order_test first_of withdraw_one_checks withdraw_one_by withdrawal_of
@@ -60,7 +59,7 @@ module _ (b : Board) (item : ℕ) (single : Within 1 b.items.count item → plac
           let w = withdrawn-is-chains (auction_of b) (cells (suc first ∷ [])) 1 sound.auction (λ i l. let z : i ≡ 0 = omega arith in rw z (record { low = omega arith; high = here })) in
           let old : withdrawn_one_of (auction_of b) first ≡ withdrawn_of (auction_of b) (cells (suc first ∷ [])) 1 =
           sym (list-of-one (auction_of b) (cells (suc first ∷ [])) first sound.auction here refl) in
-          let after = withdrawal (on_items b.items w.board) (Withdrawn.Bids w.bids) in
+          let after = withdrawal (on_items b.items w.board) (Ok w.bids) in
           (after, after, rw (s, e, f, places, w.computed) refl, rw (s, e, f, old, w.computed) refl, record { board = refl; number = refl; value = refl })
 
       by_flag : (t : Bool) → withdrawn_at b (item - 1) ≡ t → Alike b item

@@ -12,12 +12,10 @@ use Rattle.board.specs.Cells as place
 use Rattle.board.specs.Live as placed
 use Rattle.supply.specs.Board.{auction_of, places_at}
 use Rattle.supply.specs.declared.record.Board.{Board}
-use Rattle.refusals.specs.declared.Verdict.{Verdict}
-use Rattle.refusals.specs.declared.Verdict.TheVariants.{Served, Refused}
-use Rattle.auction.specs.declared.read_out.ReadOut.{ReadOut}
+use Rattle.std.specs.Prelude.{Ok, Err}
 use Rattle.supply.specs.ByItem.{live, gain_at, price_at, matching_of}
 use Rattle.supply.specs.Sound.{Sound}
-use Rattle.refusals.specs.Demand1.{first_of}
+use Rattle.refusals.specs.Demand1.{first_of, Verdict}
 use Rattle.supply.specs.Lent.{read_out_checks}
 use Rattle.board.specs.Lent.{written, Lists, lists}
 use Rattle.auction.specs.ReadOut.{read_out_by, read_out_of}
@@ -66,9 +64,9 @@ pub read-out-demand-2 : ReadOutDemand2
 unfolding read_out_of read_out_by
 read-out-demand-2 b l after a = subst (Reads b l) a.lists (go (first_of (read_out_checks b l)) refl (read-written _ a.tells))
   where
-    go : (v : Verdict) → first_of (read_out_checks b l) ≡ v → (read_out_by b l v).answer ≡ ReadOut.Written → Reads b l (read_out_by b l v).lists
-    go (Refused r) e h = let z : ◌≡◌ {A = ℕ} 0 1 = cc in absurd (omega arith)
-    go Served e h =
+    go : (v : Verdict) → first_of (read_out_checks b l) ≡ v → (read_out_by b l v).answer ≡ Ok tt → Reads b l (read_out_by b l v).lists
+    go (Err r) e h = let z : ◌≡◌ {A = ℕ} 0 1 = cc in absurd (omega arith)
+    go (Ok tt) e h =
         let u = served-next _ _ e in
         let sound = (sound-decides b).sound (not-false _ u.0) in
         let room = (room-decides _ _ _ _ _).sound (not-false _ (served-next _ _ u.1).0) in

@@ -14,6 +14,3 @@ row-start item weight = refl
 pub row_next : (item weight : ℕ → ℕ) (i k w : ℕ) (row : List ℕ) → row ≡ row_to item weight i → k ≡ item i - 1 → w ≡ weight i → set row k w ≡ row_to item weight (i + 1)
 unfolding row_to
 row_next item weight i k w row e f g = rw (add-one, e, f, g)
-
-pub row-end : (item weight : ℕ → ℕ) (i n : ℕ) (row : List ℕ) → i ≡ n → row ≡ row_to item weight i → row ≡ row_to item weight n
-row-end item weight i n row e h = rw e at h

@@ -37,7 +37,7 @@ WithdrawDemand1 =
     (λ r. WithdrawAnswers b items b (refused r))
     ((c : Board) × (n : ℕ) × WithdrawAnswers b items c (served n))
 
--- A read-out takes the board by value, so that the caller's is as it was
+-- A read-out only reads the board, so that the caller's is as it was
 abbrev pub ReadOutDemand1 : Type 0
 ReadOutDemand1 =
     (b : Board) (l : Lists) →

@@ -9,8 +9,8 @@ use Rattle.places.specs.Total.{total_with}
 use Rattle.supply.specs.declared.record.Board.{Board}
 use Rattle.board.specs.declared.record.Edge.{Edge}
 use Rattle.board.specs.declared.record.Holder.TheVariants.{Free}
-use Rattle.auction.specs.declared.arrive.Arrival.{Arrival}
-use Rattle.auction.specs.declared.withdraw.Withdrawal.{Withdrawal}
+use Rattle.auction.specs.Arrive.{Arrival, row_on, arrive_of, ArriveAnswers}
+use Rattle.auction.specs.Withdraw.{Withdrawal, places_on, withdraw_of, WithdrawAnswers}
 use Rattle.supply.specs.Board.{auction_of, places_at, item_at}
 use Rattle.supply.specs.ByItem.{live, gain_at, price_at, matching_of, matching_weight, edges_of}
 use Rattle.board.specs.Cells as place
@@ -18,11 +18,9 @@ use Rattle.board.specs.Cells.{holder_at, holder_of}
 use Rattle.refusals.specs.Told.{served}
 use Rattle.supply.specs.Sound.{Sound}
 use Rattle.bidding.specs.Rule.{Chain, done}
-use Rattle.auction.specs.Arrive.{row_on, arrive_of, ArriveAnswers}
 use Rattle.bidding.specs.Moves.{entered}
 use Rattle.bidding.specs.Withdrawals.{vacated_to, named_in, displaced_by, Chains}
 use Rattle.bidding.specs.WithdrawalLaws.{AllGone, InNumberOrder}
-use Rattle.auction.specs.Withdraw.{places_on, withdraw_of, WithdrawAnswers}
 use Rattle.auction.specs.ReadOut.{ReadOutAnswers}
 use Rattle.board.specs.Lent.{Lists}
 

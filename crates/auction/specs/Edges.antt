@@ -1,5 +1,5 @@
 -- The edges that an arrival lends: how each is tested, and the row that they make. Edge i + 1 is cell i.
-use Rattle.std.specs.Prelude.{Bool, false, cond, not, List, [], ◌∷◌, ◌++◌, ℕ, zero, suc, ◌+◌, ◌-◌, min, get_or, set, replicate, leb}
+use Rattle.std.specs.Prelude.{Bool, false, not, List, [], ◌∷◌, ◌++◌, ℕ, zero, suc, ◌-◌, min, get_or, set, replicate, leb}
 use Rattle.board.specs.declared.record.Edge.{Edge}
 use Rattle.auction.specs.declared.edges.EdgeBuffer.{EdgeBuffer}
 use Rattle.refusals.specs.declared.Refusal.TheVariants.{Unknown, Gone, Worth, Order}
@@ -45,13 +45,3 @@ edges_from items weights (suc n) = edges_from items weights n ++ (edge (get_or i
 
 abbrev pub buffer_edges : EdgeBuffer → List Edge
 buffer_edges buffer = edges_from buffer.items buffer.weights (min buffer.count max_edges)
-
--- A buffer of no edges
-abbrev pub empty_buffer : EdgeBuffer
-empty_buffer = record { items = replicate max_edges 0; weights = replicate max_edges 0; count = 0 }
-
--- A buffer and one edge more; a full one as it is
-abbrev pub pushed : EdgeBuffer → Edge → EdgeBuffer
-pushed buffer e =
-    cond (leb max_edges buffer.count) buffer
-    (record { items = set buffer.items buffer.count e.item; weights = set buffer.weights buffer.count e.weight.0; count = buffer.count + 1 })

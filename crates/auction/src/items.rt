@@ -2,60 +2,39 @@
 ghost use Rattle.std.specs.Prelude.{◌≡◌, ◌<◌, length};
 ghost use Rattle.refusals.specs.Demand1.{first_of};
 ghost use Rattle.duality.specs.Lists.{cells};
-ghost use Rattle.supply.specs.Shape.{Located};
-ghost use Rattle.supply.specs.ByItem.{gone_by};
+ghost use Rattle.supply.specs.ByItem.{withdrawn_at};
 ghost use Rattle.auction.specs.Items.{item_checks, items_checks};
 
-use crate::edges::is_unordered;
 use board::ranges::is_within;
-use board::record::Auction;
-use refusals::{Refusal, Verdict};
-use supply::record::Items;
+use matching::live::LiveSheet;
+use refusals::Refusal;
 
-// The item of cell i, tested.
-fn item_verdict<'a>(
-    known: Items,
-    starts: &'a [usize; Auction::MAX_ITEMS],
-    items: &[u64],
-    withdrawn: &'a [u8; Auction::MAX_ITEMS],
-    i: usize,
-) -> Verdict
-    requires { (i < length items.now) × Located known starts.now }
-    ensures { result ≡ first_of (item_checks known.count (gone_by known withdrawn.now) (cells items.now) i) }
+// The item of cell i, tested: in the order of an edge, whose weight is tested between, so that neither function serves both.
+#[tactic(auto, using(crate::proofs::EdgeTests::item_tests), unfolding(crate::specs::Items::item_checks, refusals::specs::Demand1::first_of))]
+fn item_verdict(sheet: &LiveSheet, items: &[u64], i: usize) -> Result<(), Refusal>
+    requires { i < length items.now }
+    ensures { result ≡ first_of (item_checks sheet.now.items.count (withdrawn_at sheet.now) (cells items.now) i) }
 {
     let place = i as u64 + 1;
     let item = items[i];
-    if !is_within(known.count, item) {
-        return Verdict::Refused(Refusal::Unknown(place));
+    if !is_within(sheet.items(), item) {
+        return Err(Refusal::Unknown(place));
     }
-    let k = (item - 1) as usize;
-    let s = starts[k];
-    if withdrawn[s] != 0 {
-        return Verdict::Refused(Refusal::Gone(place));
+    if sheet.is_gone((item - 1) as usize) {
+        return Err(Refusal::Gone(place));
     }
-    if is_unordered(items, i) {
-        return Verdict::Refused(Refusal::Order(place));
+    if i > 0 && item <= items[i - 1] {
+        return Err(Refusal::Order(place));
     }
-    Verdict::Served
+    Ok(())
 }
 
 // All items, each tested before the next.
-pub(crate) fn items_verdict<'a>(
-    known: Items,
-    starts: &'a [usize; Auction::MAX_ITEMS],
-    items: &[u64],
-    withdrawn: &'a [u8; Auction::MAX_ITEMS],
-) -> Verdict
-    requires { Located known starts.now }
-    ensures { result ≡ first_of (items_checks known.count (gone_by known withdrawn.now) (cells items.now) 0 (length items.now)) }
+pub(crate) fn items_verdict(sheet: &LiveSheet, items: &[u64]) -> Result<(), Refusal>
+    ensures { result ≡ first_of (items_checks sheet.now.items.count (withdrawn_at sheet.now) (cells items.now) 0 (length items.now)) }
 {
-    let mut i: usize = 0;
-    while i < items.len() {
-        let verdict = item_verdict(known, starts, items, withdrawn, i);
-        let Verdict::Served = verdict else {
-            return verdict;
-        };
-        i += 1;
+    for i in 0..items.len() {
+        item_verdict(sheet, items, i)?;
     }
-    Verdict::Served
+    Ok(())
 }

@@ -7,13 +7,13 @@ use native.Mathlib.Nat.{div-lt_iff_lt-mul, le-div_iff_mul-le, div-mul-le_self, m
 use native.Mathlib.Omega.{arith}
 use lib.ListN.{get_or}
 use lib.Dec.{ltb}
-use borrow.Author.Tests.{lt-ltb, le-ltb}
+use borrow.Author.Tests.{le-ltb}
 use Rattle.duality.specs.Steps.{utility}
 use Rattle.duality.proofs.Decide.{same_test, reword, lt-decides}
 use Rattle.board.specs.Limits.{max_weight}
 use Rattle.board.specs.Cells.{flag_at}
 use Rattle.board.specs.Live.{live_in}
-use Rattle.bidding.specs.Floors.{floor_of, pence_of, Floors, Weighs}
+use Rattle.bidding.specs.Floors.{floor_of, pence_of, Least, Weighs}
 use Rattle.bidding.specs.Slides.{test_open}
 use Rattle.bidding.specs.SlideLaws.{OpenAboveFloor, RoundedUp}
 
@@ -23,13 +23,6 @@ open-above-floor p q w y l h =
     let whole : (p + (q - p)) * w ≡ q * w = ap (λ f. f * w) less in
     let d = div-lt_iff_lt-mul {k = q - p} {x = y} {y = w} (omega arith) in
     (λ f. let below : y < w * (q - p) = d.0 (omega arith) in omega arith, λ o. let below : y / (q - p) < w = d.1 (omega arith) in omega arith)
-
--- A weight that is not over a floor, and one that is
-pub at-most-floor : (w f y : ℕ) → w ≤ f → 0 ≡ cond (ltb f w) w 0 - y
-at-most-floor w f y l = rw (le-ltb f w l) (omega arith)
-
-pub over-floor : (w f y : ℕ) → f < w → w - y ≡ cond (ltb f w) w 0 - y
-over-floor w f y l = rw (lt-ltb f w l) refl
 
 -- A price in whole pence is no more than the floor, live or not
 pub pence-below : (p q y : ℕ) (t : Bool) → p < q → pence_of q y ≤ cond t max_weight (floor_of p q y)
@@ -68,7 +61,7 @@ above_floor p q w y true l h = rw (le-ltb max_weight w h, le-ltb (p * 0) (utilit
 above_floor p q w y false l h = rw (same-open p q w y l h) refl
 
 -- Item by item
-pub above-floors : (p q m : ℕ) (row floors withdrawn : List ℕ) (y : ℕ → ℕ) → p < q → Weighs m row → Floors p q withdrawn y m floors →
+pub above-floors : (p q m : ℕ) (row floors withdrawn : List ℕ) (y : ℕ → ℕ) → p < q → Weighs m row → Least p q withdrawn y m floors →
     (k : ℕ) → k < m → cond (ltb (get_or floors k 0) (get_or row k 0)) (get_or row k 0) 0 ≡ test_open p q (live_in row withdrawn) y k
 unfolding test_open
 above-floors p q m row floors withdrawn y l h f k lk =

@@ -10,12 +10,12 @@ use Rattle.board.specs.declared.units.Pence.{Pence}
 use Rattle.board.specs.declared.units.Scaled.{Scaled}
 use Rattle.board.specs.declared.record.Holder.{Holder}
 use Rattle.board.specs.declared.record.Holder.TheVariants.{Held, Free}
-use Rattle.bidding.specs.declared.rule.BestEdge.{BestEdge}
-use Rattle.bidding.specs.declared.rule.BestEdge.TheVariants.{At, Nothing}
+use Rattle.bidding.specs.declared.rule.Best.{Best}
+use Rattle.std.proofs.Common.{Option, Some, None}
+use Rattle.bidding.specs.Rule.{best_edge, Chosen, Second, NoneOpen, placed_at, bidden, displaced, Chain, stays, takes, displaces, done, best_for, after_chain, hand_over, bid_of, settle_of, fuel_of}
 use Rattle.board.specs.Cells.{price_at, holder_at, holder_of}
 use Rattle.board.specs.Live.{live}
 use Rattle.bidding.specs.Potential.{edge_count, potential, bid_limit}
-use Rattle.bidding.specs.Rule.{Chosen, Second, NoneOpen, placed_at, bidden, displaced, Chain, stays, takes, displaces, done, best_for, after_chain, hand_over, bid_of, settle_of, fuel_of}
 use Rattle.bidding.specs.Waiting.{SoundBut, Ready}
 use Rattle.bidding.specs.RuleLaws.{ChainOnce, Ends, ChainEnds, SettleIsChain}
 use Rattle.bidding.proofs.Choices.{chosen-once, second-once, best-at, best-nothing}
@@ -99,11 +99,11 @@ chain-count (takes c s e) = refl
 chain-count (displaces c s e r) = chain-count r
 
 -- ---- The computed chain, turn by turn
-pub settle-none : (fuel : ℕ) (b : Auction) (i bids : ℕ) → best_for b i ≡ Nothing → settle_of (suc fuel) b i bids ≡ done (after_chain b bids)
+pub settle-none : (fuel : ℕ) (b : Auction) (i bids : ℕ) → best_for b i ≡ None → settle_of (suc fuel) b i bids ≡ done (after_chain b bids)
 unfolding settle_of bid_of
 settle-none fuel b i bids e = rw e
 
-module _ (fuel : ℕ) (b : Auction) (i bids k : ℕ) (v : Pence) (u s : Scaled) (e : best_for b i ≡ At k v u s) where
+module _ (fuel : ℕ) (b : Auction) (i bids k : ℕ) (v : Pence) (u s : Scaled) (e : best_for b i ≡ Some (best_edge k v u s)) where
   pub settle-free : holder_of (holder_at b k) ≡ Free → settle_of (suc fuel) b i bids ≡ done (after_chain (bidden b i k s.0) (bids + 1))
   unfolding settle_of bid_of hand_over
   settle-free h = rw (e, h)
@@ -131,7 +131,7 @@ AllRun waits fuel =
 
 module _ {waits : ℕ → Type 0} {fuel : ℕ} (ih : AllRun waits fuel) {b : Auction} {i bids : ℕ} (s : SoundBut (λ h. waits h ⊎ (h ≡ i)) b)
     (li : i < b.market.arrived) (rests : waits i → ⊥) (l : bid_limit b < suc fuel + potential b) where
-  hand : {k : ℕ} {v : Pence} {u t : Scaled} → best_for b i ≡ At k v u t → Chooses b i k → Seconds b i k t.0 → (h : Holder) → holder_of (holder_at b k) ≡ h →
+  hand : {k : ℕ} {v : Pence} {u t : Scaled} → best_for b i ≡ Some (best_edge k v u t) → Chooses b i k → Seconds b i k t.0 → (h : Holder) → holder_of (holder_at b k) ≡ h →
       Runs (suc fuel) b i bids
   hand {k} {v} {u} {t} e c y Free f = record { board = bidden b i k t.0; more = 1; computed = settle-free fuel b i bids k v u t e f; chain = takes c y f }
   hand {k} {v} {u} {t} e c y (Held x) f =
@@ -150,11 +150,11 @@ module _ {waits : ℕ → Type 0} {fuel : ℕ} (ih : AllRun waits fuel) {b : Auc
             chain = displaces c y f r.chain;
           }
 
-  turn : (best : BestEdge) → best_for b i ≡ best → Runs (suc fuel) b i bids
-  turn Nothing e =
+  turn : (best : Option Best) → best_for b i ≡ best → Runs (suc fuel) b i bids
+  turn None e =
       let sum : bids + 0 ≡ bids = omega arith in
       record { board = b; more = 0; computed = rw sum (settle-none fuel b i bids e); chain = stays (best-nothing _ _ _ _ _ e) }
-  turn (At k v u t) e = let a = best-at _ _ _ _ _ k v u t e in hand e a.chosen a.second (holder_of (holder_at b k)) refl
+  turn (Some t) e = let a = best-at _ _ _ _ _ t.item t.weight t.utility t.second e in hand {k = t.item} {v = t.weight} {u = t.utility} {t = t.second} e a.chosen a.second (holder_of (holder_at b t.item)) refl
 
 runs : (waits : ℕ → Type 0) (fuel : ℕ) → AllRun waits fuel
 runs waits zero b i bids s li rests l = absurd (omega (arith, potential-within b))
@@ -167,7 +167,7 @@ settle-is-chain waits b i s li rests =
     record { board = r.board; bids = r.more; computed = rw sum at r.computed; chain = r.chain }
 
 -- ---- For a loop that makes the chain: one bidder is to bid, and others wait
-pub ready_on : {b : Auction} {i k x : ℕ} {v : Pence} {u s : Scaled} → Ready b i → best_for b i ≡ At k v u s → holder_of (holder_at b k) ≡ Held x →
+pub ready_on : {b : Auction} {i k x : ℕ} {v : Pence} {u s : Scaled} → Ready b i → best_for b i ≡ Some (best_edge k v u s) → holder_of (holder_at b k) ≡ Held x →
     Ready (displaced (bidden b i k s.0) x) x
 ready_on {b} {i} {k} {x} {v} {u} {s} r e f =
     let t = best-at _ _ _ _ _ k v u s e in

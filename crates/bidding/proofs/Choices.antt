@@ -1,5 +1,5 @@
 -- Which item the rule chooses, and the second utility beside it: the computed answer is right, and there is one right answer.
-use mathlib.Core.Path.{◌≡◌, refl, sym, ◌∙◌}
+use mathlib.Core.Path.{◌≡◌, refl, sym, ◌∙◌, ap}
 use mathlib.Core.Logic.{◌⊎◌, inl, inr, ⊎_elim, by_cases}
 use mathlib.Core.Bool.{Bool, true, false, cond}
 use Prim.Native.Nat.{ℕ, zero, suc, ◌*◌, ◌≤◌, ◌<◌, max}
@@ -14,10 +14,10 @@ use Rattle.duality.proofs.Below.{one_more}
 use Rattle.duality.proofs.Decide.{clash, reword, lt-decides, eq-decides, and-decides, or-decides}
 use Rattle.board.specs.declared.units.Pence.{Pence}
 use Rattle.board.specs.declared.units.Scaled.{Scaled}
-use Rattle.bidding.specs.declared.rule.BestEdge.{BestEdge}
-use Rattle.bidding.specs.declared.rule.BestEdge.TheVariants.{At, Nothing}
+use Rattle.bidding.specs.declared.rule.Best.{Best}
+use Rattle.std.proofs.Common.{Option, Some, None}
+use Rattle.bidding.specs.Rule.{best_edge, Chosen, Second, NoneOpen, beats, offer_of, best_of}
 use Rattle.board.specs.Cells.{pence, scaled}
-use Rattle.bidding.specs.Rule.{Chosen, Second, NoneOpen, beats, offer_of, best_of}
 use Rattle.bidding.specs.RuleLaws.{Choice, chosen, none, BestIsChosen, ChosenOnce, SecondOnce, SecondWithin, TiesByWeight}
 
 -- The edge at item k + 1 goes before that at item j + 1, or they are the same
@@ -126,20 +126,20 @@ module _ {p q m : ℕ} {w y : ℕ → ℕ} where
       }
 
   after_none : (t : Bool) → Decides t (Open p q (w m) (y m)) → NoneOpen p q m w y →
-      Choice p q (suc m) w y (cond t (At m (pence (w m)) (scaled (utility q (w m) (y m))) (scaled 0)) Nothing)
+      Choice p q (suc m) w y (cond t (Some (best_edge m (pence (w m)) (scaled (utility q (w m) (y m))) (scaled 0))) None)
   after_none true d h = chosen (betters (d.sound refl) (λ j l o. absurd (h j l o))) (second_none h)
   after_none false d h = none (one_more m _ h (λ o. clash false (d.complete o) refl))
 
   after-chosen : {k s : ℕ} (t v : Bool) → Decides t (Open p q (w m) (y m)) → Decides v (Beats q w y m k) → Chosen p q m w y k → Second p q m w y k s →
       Choice p q (suc m) w y (cond t
-      (cond v (At m (pence (w m)) (scaled (utility q (w m) (y m))) (scaled (utility q (w k) (y k))))
-      (At k (pence (w k)) (scaled (utility q (w k) (y k))) (scaled (max s (utility q (w m) (y m))))))
-      (At k (pence (w k)) (scaled (utility q (w k) (y k))) (scaled s)))
+      (cond v (Some (best_edge m (pence (w m)) (scaled (utility q (w m) (y m))) (scaled (utility q (w k) (y k)))))
+      (Some (best_edge k (pence (w k)) (scaled (utility q (w k) (y k))) (scaled (max s (utility q (w m) (y m)))))))
+      (Some (best_edge k (pence (w k)) (scaled (utility q (w k) (y k))) (scaled s))))
   after-chosen true true d e c r = chosen (betters (d.sound refl) (λ j l o. overtakes (e.sound refl) j (goes_before c j l o))) (second-was c)
   after-chosen true false d e c r = chosen (keeps c (λ o. stays-before c.item (λ h. clash false (e.complete h) refl))) (second_more c.item r (d.sound refl))
   after-chosen false v d e c r = chosen (keeps c (λ o. absurd (clash false (d.complete o) refl))) (second-stays r (λ o. clash false (d.complete o) refl))
 
-  after : {best : BestEdge} → Choice p q m w y best → Choice p q (suc m) w y (offer_of p q m (w m) (y m) best)
+  after : {best : Option Best} → Choice p q m w y best → Choice p q (suc m) w y (offer_of p q m (w m) (y m) best)
   unfolding offer_of
   after (none h) = after_none _ (lt-decides (p * w m) (utility q (w m) (y m))) h
   after (chosen {k = k} c r) = after-chosen _ _ (lt-decides (p * w m) (utility q (w m) (y m))) (beats-decides q m w y k) c r
@@ -178,21 +178,22 @@ pub record Answers (p q m : ℕ) (w y : ℕ → ℕ) (k : ℕ) (v : Pence) (u s 
   pub second : Second p q m w y k s.0
 
 module _ (p q m : ℕ) (w y : ℕ → ℕ) where
-  pub best-at : (k : ℕ) (v : Pence) (u s : Scaled) → best_of p q w y m ≡ At k v u s → Answers p q m w y k v u s
+  pub best-at : (k : ℕ) (v : Pence) (u s : Scaled) → best_of p q w y m ≡ Some (best_edge k v u s) → Answers p q m w y k v u s
   best-at k v u s e = go (best-is-chosen p q m w y) e
     where
-      go : {best : BestEdge} → Choice p q m w y best → best ≡ At k v u s → Answers p q m w y k v u s
+      go : {best : Option Best} → Choice p q m w y best → best ≡ Some (best_edge k v u s) → Answers p q m w y k v u s
       go (none h) e = let z : ◌≡◌ {A = ℕ} 0 1 = cc in absurd (omega arith)
       go (chosen {k = j} {s = t} c r) e =
-          let same : j ≡ k = cc in
-          let weight : v ≡ pence (w j) = cc in
-          let gain : u ≡ scaled (utility q (w j) (y j)) = cc in
-          let left : scaled t ≡ s = cc in
+          let all : best_edge j (pence (w j)) (scaled (utility q (w j) (y j))) (scaled t) ≡ best_edge k v u s = cc in
+          let same : j ≡ k = ap (λ (b : Best). b.item) all in
+          let weight : v ≡ pence (w j) = sym (ap (λ (b : Best). b.weight) all) in
+          let gain : u ≡ scaled (utility q (w j) (y j)) = sym (ap (λ (b : Best). b.utility) all) in
+          let left : scaled t ≡ s = ap (λ (b : Best). b.second) all in
           rw (← same, ← left) (record { chosen = c; weight = weight; utility = gain; second = r })
 
-  pub best-nothing : best_of p q w y m ≡ Nothing → NoneOpen p q m w y
+  pub best-nothing : best_of p q w y m ≡ None → NoneOpen p q m w y
   best-nothing e = go (best-is-chosen p q m w y) e
     where
-      go : {best : BestEdge} → Choice p q m w y best → best ≡ Nothing → NoneOpen p q m w y
+      go : {best : Option Best} → Choice p q m w y best → best ≡ None → NoneOpen p q m w y
       go (none h) e = h
       go (chosen c r) e = let z : ◌≡◌ {A = ℕ} 0 1 = cc in absurd (omega arith)

@@ -13,15 +13,16 @@ use Rattle.board.specs.declared.record.Holder.{Holder}
 use Rattle.board.specs.declared.units.Pence.{Pence}
 use Rattle.board.specs.declared.units.Scaled.{Scaled}
 use Rattle.board.specs.declared.record.Holder.TheVariants.{Held, Free}
-use Rattle.bidding.specs.declared.rule.BestEdge.{BestEdge}
-use Rattle.bidding.specs.declared.rule.BestEdge.TheVariants.{At, Nothing}
-use Rattle.board.specs.Cells.{price_at, holder_at, holder_of}
+use Rattle.bidding.specs.declared.rule.Best.{Best}
+use Rattle.std.proofs.Common.{Option, Some, None}
+use Rattle.bidding.specs.Rule.{best_edge, ranked, offer_of, best_of, raised_to, placed_at, bidden, displaced, AfterChain, Outcome, done, spent, after_chain, hand_over, bid_of, best_for, settle_of, fuel_of}
+use Rattle.board.specs.Cells.{price_at, holder_at, holder_of, scaled}
 use Rattle.board.specs.Live.{live}
-use Rattle.bidding.specs.Rule.{ranked, offer_of, best_of, raised_to, placed_at, bidden, displaced, AfterChain, Outcome, done, spent, after_chain, hand_over, bid_of, best_for, settle_of, fuel_of}
 use Rattle.bidding.specs.Moves.{arrived_of, entered}
 use Rattle.bidding.specs.Withdrawals.{more_bids, next_chain, chains_from, withdrawn_of}
 use Rattle.bidding.specs.Slides.{test_open, take_of, pick_of, priced, handed_over, next_bidder, after_pick, bid_by_slides, bid_until_now, settle_by_slides, arrived_by_slides, next_by_slides, chains_by_slides, withdrawn_by_slides}
-use Rattle.bidding.specs.SlideLaws.{TestMeans, PickMeans, TestThenPick, PlainSteps, UntilNow, picked_for, handed_for, StepsInTurn, BidBySlides, ChainBySlides, ArrivedBySlides, WithdrawnBySlides}
+use Rattle.bidding.specs.SlideLaws.{TestMeans, PickMeans, TestThenPick, PlainSteps, StateSteps, UntilNow, picked_for, handed_for, StepsInTurn, BidBySlides, ChainBySlides, ArrivedBySlides, WithdrawnBySlides}
+use Rattle.bidding.specs.Book.{state_of}
 use Rattle.bidding.proofs.Choices.{best-is-chosen, best-at}
 use Rattle.bidding.proofs.Units.{units-at, units-set, units-gains}
 
@@ -36,7 +37,7 @@ test-means p q w y k =
     }
 
 -- One edge more, of which step 1 has told whether it is open
-take-tested : (p q k w y : ℕ) (best : BestEdge) → take_of q k (cond (ltb (p * w) (utility q w y)) w 0) y best ≡ offer_of p q k w y best
+take-tested : (p q k w y : ℕ) (best : Option Best) → take_of q k (cond (ltb (p * w) (utility q w y)) w 0) y best ≡ offer_of p q k w y best
 unfolding take_of offer_of
 take-tested p q k w y best = go (ltb (p * w) (utility q w y)) refl
   where
@@ -51,7 +52,7 @@ test-then-pick p q zero w y = refl
 test-then-pick p q (suc m) w y = rw (test-then-pick p q m w y) (take-tested p q m (w m) (y m) (best_of p q w y m))
 
 -- With no slack every edge that has a utility is open
-take-offer : (q k w y : ℕ) (best : BestEdge) → take_of q k w y best ≡ offer_of 0 q k w y best
+take-offer : (q k w y : ℕ) (best : Option Best) → take_of q k w y best ≡ offer_of 0 q k w y best
 unfolding take_of offer_of
 take-offer q k w y best = let z : 0 * w ≡ 0 = omega arith in rw z refl
 
@@ -69,12 +70,16 @@ unfolding pick_of
 pick-as q zero w v y z e f = refl
 pick-as q (suc m) w v y z e f = rw (pick-as q m w v y z (λ k l. e k (omega arith)) f, e m (omega arith), f m) refl
 
--- ---- Steps 3 and 4, on plain numbers
+-- ---- Steps 3 and 4, on a state's lists and on plain numbers
+
+pub state-steps : StateSteps
+unfolding handed_over priced
+state-steps market weights state i k w lead s = refl
 
 pub plain-steps : PlainSteps
-unfolding handed_over priced
 plain-steps market weights prices holders gains i k w lead s =
-    rw (units-set prices k (raised_to market.slack.p w lead (cells prices k)), units-gains gains i s (holder_of (cells holders k)), units-at prices k) refl
+    rw (units-set prices k (raised_to market.slack.p w lead (cells prices k)), units-gains gains i s (holder_of (cells holders k)), ← units-at prices k)
+    (state-steps market weights (state_of prices holders gains) i k w lead (scaled s))
 
 -- ---- All four
 
@@ -95,22 +100,22 @@ module _ (b : Auction) (i k w u s : ℕ) (weight : w ≡ live b i k) (gain : u �
   hands again bids Free e = ap (λ c. done (after_chain c bids)) (handed-free e)
   hands again bids (Held x) e = ap (λ c. again c x bids) (handed-held x e)
 
-picks : (again : Auction → ℕ → ℕ → Outcome AfterChain) (b : Auction) (i bids : ℕ) (best : BestEdge) → best_for b i ≡ best → after_pick again b i bids best ≡ bid_of again b i bids best
+picks : (again : Auction → ℕ → ℕ → Outcome AfterChain) (b : Auction) (i bids : ℕ) (best : Option Best) → best_for b i ≡ best → after_pick again b i bids best ≡ bid_of again b i bids best
 unfolding after_pick bid_of handed_over priced
-picks again b i bids Nothing e = refl
-picks again b i bids (At k v u s) e =
-    let a = best-at _ _ _ _ _ k v u s e in
-    hands b i k v.0 u.0 s.0 (ap (λ (x : Pence). x.0) a.weight) (ap (λ (x : Scaled). x.0) a.utility) again (bids + 1) (holder_of (holder_at b k)) refl
+picks again b i bids None e = refl
+picks again b i bids (Some best) e =
+    let a = best-at _ _ _ _ _ best.item best.weight best.utility best.second e in
+    hands b i best.item best.weight.0 best.utility.0 best.second.0 (ap (λ (x : Pence). x.0) a.weight) (ap (λ (x : Scaled). x.0) a.utility) again (bids + 1) (holder_of (holder_at b best.item)) refl
 
 -- What follows a pick
 module _ (again : Auction → ℕ → ℕ → Outcome AfterChain) where
-  pick-nothing : (b : Auction) (i bids : ℕ) → after_pick again b i bids Nothing ≡ done (after_chain b bids)
+  pick-nothing : (b : Auction) (i bids : ℕ) → after_pick again b i bids None ≡ done (after_chain b bids)
   unfolding after_pick
   pick-nothing b i bids = refl
 
   pick_at : (b : Auction) (i bids k : ℕ) (w : Pence) (u s : Scaled) →
       let d = handed_for b i k w u s in
-      after_pick again b i bids (At k w u s) ≡ next_bidder again d.auction (bids + 1) d.before
+      after_pick again b i bids (Some (best_edge k w u s)) ≡ next_bidder again d.auction (bids + 1) d.before
   unfolding after_pick
   pick_at b i bids k w u s = refl
 
@@ -136,12 +141,12 @@ pub steps-in-turn : StepsInTurn
 unfolding bid_by_slides
 steps-in-turn again b i bids =
     record {
-      nothing = λ e. same Nothing e ∙ pick-nothing again b i bids;
-      free = λ k w u s e f. same (At k w u s) e ∙ (pick_at again b i bids k w u s ∙ next-free again _ (bids + 1) _ f);
-      held = λ k w u s x e f. same (At k w u s) e ∙ (pick_at again b i bids k w u s ∙ next-held again _ (bids + 1) x _ f);
+      nothing = λ e. same None e ∙ pick-nothing again b i bids;
+      free = λ k w u s e f. same (Some (best_edge k w u s)) e ∙ (pick_at again b i bids k w u s ∙ next-free again _ (bids + 1) _ f);
+      held = λ k w u s x e f. same (Some (best_edge k w u s)) e ∙ (pick_at again b i bids k w u s ∙ next-held again _ (bids + 1) x _ f);
     }
   where
-    same : (best : BestEdge) → picked_for b i ≡ best → bid_until_now again b i bids ≡ after_pick again b i bids best
+    same : (best : Option Best) → picked_for b i ≡ best → bid_until_now again b i bids ≡ after_pick again b i bids best
     same best e = sym (bid-by-slides again b i bids) ∙ ap (after_pick again b i bids) e
 
 -- The rest of a chain is the same, so the chain is

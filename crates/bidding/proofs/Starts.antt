@@ -17,7 +17,7 @@ use Rattle.duality.proofs.Exchange.{Holder}
 use Rattle.board.specs.declared.record.Auction.{Auction}
 use Rattle.board.specs.Limits.{max_bidders, max_weight, max_items}
 use Rattle.board.specs.Cells.{scaled, flag_at, price_at, gain_at, holder_at, holder_of, row_at}
-use Rattle.board.specs.Live.{live_in, live, matching_of}
+use Rattle.board.specs.Live.{live, matching_of}
 use Rattle.board.specs.Sound.{Sound}
 use Rattle.bidding.specs.Rule.{displaced}
 use Rattle.bidding.specs.Moves.{entered, released}
@@ -31,11 +31,6 @@ use Rattle.bidding.proofs.Placed.{gain-displaced, displaced-none, framed-displac
 use Rattle.bidding.proofs.Bids.{waits-as}
 
 -- ---- A new bidder
-
--- An earlier bidder's live edges are as they were
-pub live-kept : (b : Auction) (row : List ℕ) (i : ℕ) → length row ≡ max_items → i ≢ b.market.arrived → live (entered b row) i ≡ live b i
-unfolding entered
-live-kept b row i n ne = ap (λ ws. live_in ws b.market.withdrawn) (row_kept b row i n ne)
 
 pub arrival-sound : {waits : ℕ → Type 0} {b : Auction} {row : List ℕ} → SoundBut waits b → b.market.arrived < max_bidders → RowFits b.market.items row →
     SoundBut (λ h. waits h ⊎ (h ≡ b.market.arrived)) (entered b row)

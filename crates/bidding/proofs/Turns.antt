@@ -12,12 +12,12 @@ use Rattle.board.specs.declared.record.Auction.{Auction}
 use Rattle.board.specs.declared.units.Pence.{Pence}
 use Rattle.board.specs.declared.units.Scaled.{Scaled}
 use Rattle.board.specs.declared.record.Holder.TheVariants.{Held, Free}
-use Rattle.bidding.specs.declared.rule.BestEdge.TheVariants.{At, Nothing}
+use Rattle.std.proofs.Common.{Some, None}
+use Rattle.bidding.specs.Rule.{best_edge, best_for, bidden, displaced, settle_of, fuel_of, after_chain, done}
 use Rattle.board.specs.Limits.{max_items, max_bidders, max_weight, max_q}
 use Rattle.board.specs.Cells.{pence, scaled, price_at, holder_at, holder_of, weight_at, withdrawn_at, row_in}
 use Rattle.board.specs.Live.{live}
 use Rattle.bidding.specs.Potential.{one, edge_count, potential, bid_limit}
-use Rattle.bidding.specs.Rule.{best_for, bidden, displaced, settle_of, fuel_of, after_chain, done}
 use Rattle.bidding.specs.Waiting.{SoundBut, Ready}
 use Rattle.bidding.proofs.Choices.{best-at, second-within}
 use Rattle.bidding.proofs.Bids.{rule-admissible}
@@ -72,7 +72,7 @@ module _ {b₀ : Auction} {i₀ : ℕ} {b : Auction} {i bids : ℕ} (g : Going b
   turns = omega (arith, within-limit)
 
   -- No edge is open
-  pub going-ends : best_for b i ≡ Nothing → done (after_chain b bids) ≡ settle_of (fuel_of b₀) b₀ i₀ 0
+  pub going-ends : best_for b i ≡ None → done (after_chain b bids) ≡ settle_of (fuel_of b₀) b₀ i₀ 0
   going-ends e = sym (rw turns (settle-none _ b i bids e)) ∙ g.same
 
   -- The count of bids fits, and fuel is left
@@ -84,7 +84,7 @@ module _ {b₀ : Auction} {i₀ : ℕ} {b : Auction} {i bids : ℕ} (g : Going b
   pub less : fuel_of b₀ - (bids + 1) < fuel_of b₀ - bids
   less = omega (arith, within-limit)
 
-  module _ {k : ℕ} {v : Pence} {u s : Scaled} (e : best_for b i ≡ At k v u s) where
+  module _ {k : ℕ} {v : Pence} {u s : Scaled} (e : best_for b i ≡ Some (best_edge k v u s)) where
     pub found : Found b i k v u s
     found =
         let a = best-at _ _ _ _ _ k v u s e in

@@ -12,7 +12,7 @@ use Rattle.duality.proofs.Decide.{clash, false-is, true-decides}
 use Rattle.board.specs.declared.record.Auction.{Auction}
 use Rattle.board.specs.declared.record.Market.{Market}
 use Rattle.board.specs.Limits.{max_items, max_bidders, max_q}
-use Rattle.board.specs.Cells.{holder_at, flag_at}
+use Rattle.board.specs.Cells.{holder_at}
 use Rattle.board.specs.Live.{matching_of}
 use Rattle.board.specs.Sound.{Sound}
 use Rattle.bidding.specs.Potential.{potential}
@@ -20,7 +20,7 @@ use Rattle.bidding.specs.Rule.{AfterChain, Chain, stays, takes, displaces, Outco
 use Rattle.bidding.specs.Moves.{released, withdrawn_one_of}
 use Rattle.bidding.specs.Waiting.{SoundBut, Ready}
 use Rattle.bidding.specs.RuleLaws.{Settles}
-use Rattle.bidding.specs.Withdrawals.{displaced_if, vacated, vacated_to, named_in, holds_named, roll_of, Vacates, Chains, ended, next, more_bids, next_chain, chains_from, withdrawn_of}
+use Rattle.bidding.specs.Withdrawals.{displaced_if, vacated, vacated_to, named_in, holds_named, roll_of, marked, Vacates, Chains, ended, next, more_bids, next_chain, chains_from, withdrawn_of}
 use Rattle.bidding.specs.WithdrawalLaws.{Listed, ChainsOnce, WithdrawnIsChains, EmptyList, ListOfOne}
 use Rattle.bidding.proofs.Waiting.{sound-is-settled}
 use Rattle.bidding.proofs.Frame.{framed}
@@ -186,13 +186,13 @@ withdrawn-is-chains b item n s w =
     }
 
 -- The marks' chains are the withdrawal's
-pub marked-chains : {b₀ : Auction} (s : Sound b₀) {item : ℕ → ℕ} {n : ℕ} → Listed b₀ item n → {b : Auction} {waiting : List ℕ} → Vacates b₀ item n b waiting →
-    chains_from (done (after_chain b 0)) (roll_of (flag_at waiting) b.market.arrived) ≡ withdrawn_of b₀ item n
+pub marked-chains : {b₀ : Auction} (s : Sound b₀) {item : ℕ → ℕ} {n : ℕ} → Listed b₀ item n → {b : Auction} {waiting : List Bool} → Vacates b₀ item n b waiting →
+    chains_from (done (after_chain b 0)) (roll_of (marked waiting) b.market.arrived) ≡ withdrawn_of b₀ item n
 unfolding withdrawn_of
 marked-chains {b₀} s {item} {n} l {b} {waiting} v =
     let same : b.market.arrived ≡ b₀.market.arrived = ap (λ (c : Auction). c.market.arrived) v.board ∙ (stage s item n l).all.arrived in
     ap₂ (λ (c : Auction) (xs : List ℕ). chains_from (done (after_chain c 0)) xs) v.board
-    (ap (roll_of (flag_at waiting)) same ∙ roll-as (flag_at waiting) (holds_named b₀ item n) b₀.market.arrived v.marks)
+    (ap (roll_of (marked waiting)) same ∙ roll-as (marked waiting) (holds_named b₀ item n) b₀.market.arrived v.marks)
 
 -- ---- Lists of none and of one
 pub empty-list : EmptyList

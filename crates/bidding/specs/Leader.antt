@@ -1,22 +1,22 @@
 -- The best of the edges looked at, as step 2 of a bid keeps it: its item, weight and utility, and a bar. An edge whose utility is not above the bar changes
 -- nothing. The bar is the second utility less 1, and 0 while there is no second. Every edge that is offered has a utility of 2 or more.
-use Rattle.std.specs.Prelude.{◌≡◌, cond, List, ℕ, ◌+◌, ◌-◌, ◌*◌, ◌≤◌, ◌<◌, eqb}
+use Rattle.std.specs.Prelude.{◌≡◌, Option, Some, None, cond, List, ℕ, ◌+◌, ◌-◌, ◌*◌, ◌≤◌, ◌<◌, eqb}
 use Rattle.duality.specs.Lists.{cells}
 use Rattle.duality.specs.Steps.{utility}
 use Rattle.board.specs.declared.units.Pence.{Pence}
 use Rattle.board.specs.declared.units.Scaled.{Scaled}
 use Rattle.board.specs.Limits.{max_q, word_limit}
 use Rattle.board.specs.Cells.{scaled}
-use Rattle.bidding.specs.declared.rule.BestEdge.{BestEdge}
-use Rattle.bidding.specs.declared.rule.BestEdge.TheVariants.{At, Nothing}
+use Rattle.bidding.specs.declared.rule.Best.{Best}
+use Rattle.bidding.specs.Rule.{best_edge}
 
 -- The second utility that a bar stands for
 abbrev pub second_in : ℕ → ℕ
 second_in bar = cond (eqb bar 0) 0 (bar + 1)
 
 -- The edge that it is: none while there is no weight
-abbrev pub edge_of : ℕ → Pence → Scaled → ℕ → BestEdge
-edge_of k w u bar = cond (eqb w.0 0) Nothing (At k w u (scaled (second_in bar)))
+abbrev pub edge_of : ℕ → Pence → Scaled → ℕ → Option Best
+edge_of k w u bar = cond (eqb w.0 0) None (Some (best_edge k w u (scaled (second_in bar))))
 
 -- While there is no weight the utility is 1 and the bar 0; afterwards the utility is 2 or more. The bar is below the utility, and all fits
 pub record LeaderFits (w u bar : ℕ) : Type 0 where

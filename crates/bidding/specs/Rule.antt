@@ -1,11 +1,12 @@
 -- The rule: which item a bidder takes, what a bid does, and the chain of bids.
-use Rattle.std.specs.Prelude.{◌≡◌, Bool, cond, ◌&&◌, ◌||◌, ◌⊎◌, ℕ, zero, suc, ◌+◌, ◌-◌, ◌*◌, ◌<◌, ◌≤◌, max, set, eqb, ltb}
+use Rattle.std.specs.Prelude.{◌≡◌, Option, Some, None, Bool, cond, ◌&&◌, ◌||◌, ◌⊎◌, ℕ, zero, suc, ◌+◌, ◌-◌, ◌*◌, ◌<◌, ◌≤◌, max, set, eqb, ltb}
 use Rattle.duality.specs.Steps.{utility, Open}
 use Rattle.board.specs.declared.record.Auction.{Auction}
 use Rattle.board.specs.declared.record.Holder.{Holder}
 use Rattle.board.specs.declared.record.Holder.TheVariants.{Held, Free}
-use Rattle.bidding.specs.declared.rule.BestEdge.{BestEdge}
-use Rattle.bidding.specs.declared.rule.BestEdge.TheVariants.{At, Nothing}
+use Rattle.bidding.specs.declared.rule.Best.{Best}
+use Rattle.board.specs.declared.units.Pence.{Pence}
+use Rattle.board.specs.declared.units.Scaled.{Scaled}
 use Rattle.board.specs.Cells.{scaled, pence, with_state, price_at, holder_at, holder_of}
 use Rattle.board.specs.Live.{live}
 use Rattle.bidding.specs.Potential.{bid_limit}
@@ -36,18 +37,23 @@ NoneOpen p q m w y = (k : ℕ) → k < m → Open p q (w k) (y k) → ⊥
 abbrev pub beats : ℕ → ℕ → ℕ → ℕ → Bool
 beats u w g v = ltb g u || (eqb u g && ltb v w)
 
+-- What a bidder takes, if anything: item k + 1, whose edge has weight w and utility u, and beside it the second utility s
+abbrev pub best_edge : ℕ → Pence → Scaled → Scaled → Best
+best_edge k w u s = record { item = k; weight = w; utility = u; second = s }
+
 -- One more open edge, at item k + 1, beside the best so far and the second's utility: it goes before, and what was best is second; or it may be second
-abbrev pub ranked : ℕ → ℕ → ℕ → BestEdge → BestEdge
-ranked k w u Nothing = At k (pence w) (scaled u) (scaled 0)
-ranked k w u (At j v g s) = cond (beats u w g.0 v.0) (At k (pence w) (scaled u) g) (At j v g (scaled (max s.0 u)))
+abbrev pub ranked : ℕ → ℕ → ℕ → Option Best → Option Best
+ranked k w u None = Some (best_edge k (pence w) (scaled u) (scaled 0))
+ranked k w u (Some b) =
+    cond (beats u w b.utility.0 b.weight.0) (Some (best_edge k (pence w) (scaled u) b.utility)) (Some (best_edge b.item b.weight b.utility (scaled (max b.second.0 u))))
 
 -- The best so far, after the edge at item k + 1 has been looked at
-unfoldable pub offer_of : ℕ → ℕ → ℕ → ℕ → ℕ → BestEdge → BestEdge
+unfoldable pub offer_of : ℕ → ℕ → ℕ → ℕ → ℕ → Option Best → Option Best
 offer_of p q k w y best = cond (ltb (p * w) (utility q w y)) (ranked k w (utility q w y) best) best
 
 -- The best of the first m items, computed: the chosen one with its weight, its utility and the second utility, or nothing (RuleLaws says so)
-unfoldable pub best_of : ℕ → ℕ → (ℕ → ℕ) → (ℕ → ℕ) → ℕ → BestEdge
-best_of p q w y zero = Nothing
+unfoldable pub best_of : ℕ → ℕ → (ℕ → ℕ) → (ℕ → ℕ) → ℕ → Option Best
+best_of p q w y zero = None
 best_of p q w y (suc k) = offer_of p q k (w k) (y k) (best_of p q w y k)
 
 -- ---- What a bid does.
@@ -89,7 +95,7 @@ pub data Outcome (A : Type 0) : Type 0 where
   done : A → Outcome A
   spent : Outcome A
 
-abbrev pub best_for : Auction → ℕ → BestEdge
+abbrev pub best_for : Auction → ℕ → Option Best
 best_for b i = best_of b.market.slack.p b.market.slack.q (live b i) (price_at b) b.market.items
 
 -- A board after a chain of bids, and how many they were
@@ -105,9 +111,9 @@ unfoldable pub hand_over : (Auction → ℕ → ℕ → Outcome AfterChain) → 
 hand_over again b bids Free = done (after_chain b bids)
 hand_over again b bids (Held x) = again (displaced b x) x bids
 
-unfoldable pub bid_of : (Auction → ℕ → ℕ → Outcome AfterChain) → Auction → ℕ → ℕ → BestEdge → Outcome AfterChain
-bid_of again b i bids Nothing = done (after_chain b bids)
-bid_of again b i bids (At k w u s) = hand_over again (bidden b i k s.0) (bids + 1) (holder_of (holder_at b k))
+unfoldable pub bid_of : (Auction → ℕ → ℕ → Outcome AfterChain) → Auction → ℕ → ℕ → Option Best → Outcome AfterChain
+bid_of again b i bids None = done (after_chain b bids)
+bid_of again b i bids (Some e) = hand_over again (bidden b i e.item e.second.0) (bids + 1) (holder_of (holder_at b e.item))
 
 -- The chain that bidder i + 1 begins, after so many bids, of at most `fuel` turns
 unfoldable pub settle_of : ℕ → Auction → ℕ → ℕ → Outcome AfterChain

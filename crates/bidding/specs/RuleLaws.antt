@@ -1,23 +1,22 @@
 -- Statements about the rule: what the computed definitions mean, that a bid keeps the board sound, and how many bids there are.
-use Rattle.std.specs.Prelude.{◌≡◌, ◌↔◌, ◌⊎◌, ℕ, ◌+◌, ◌-◌, ◌*◌, ◌≤◌, ◌<◌}
+use Rattle.std.specs.Prelude.{◌≡◌, Option, Some, None, ◌↔◌, ◌⊎◌, ℕ, ◌+◌, ◌-◌, ◌*◌, ◌≤◌, ◌<◌}
 use Rattle.duality.specs.Steps.{utility, Open}
 use Rattle.board.specs.declared.record.Auction.{Auction}
 use Rattle.board.specs.declared.record.Holder.TheVariants.{Held, Free}
-use Rattle.bidding.specs.declared.rule.BestEdge.{BestEdge}
-use Rattle.bidding.specs.declared.rule.BestEdge.TheVariants.{At, Nothing}
+use Rattle.bidding.specs.declared.rule.Best.{Best}
+use Rattle.bidding.specs.Rule.{best_edge, Chosen, Second, NoneOpen, best_of, raised_to, placed_at, displaced, Chain, settle_of, after_chain, fuel_of, done}
 use Rattle.board.specs.Cells.{pence, scaled, price_at, holder_at, holder_of}
 use Rattle.board.specs.Live.{live}
 use Rattle.board.specs.Sound.{Sound}
 use Rattle.bidding.specs.Potential.{potential, bid_limit}
-use Rattle.bidding.specs.Rule.{Chosen, Second, NoneOpen, best_of, raised_to, placed_at, displaced, Chain, settle_of, after_chain, fuel_of, done}
 use Rattle.bidding.specs.Waiting.{SoundBut, Nobody, Admissible}
 
 -- ---- Which item.
 
 -- What an answer says: the chosen item with its weight, its utility and the second utility, or that no edge is open
-pub data Choice (p q m : ℕ) (w y : ℕ → ℕ) : BestEdge → Type 0 where
-  chosen : {k s : ℕ} → Chosen p q m w y k → Second p q m w y k s → Choice p q m w y (At k (pence (w k)) (scaled (utility q (w k) (y k))) (scaled s))
-  none : NoneOpen p q m w y → Choice p q m w y Nothing
+pub data Choice (p q m : ℕ) (w y : ℕ → ℕ) : Option Best → Type 0 where
+  chosen : {k s : ℕ} → Chosen p q m w y k → Second p q m w y k s → Choice p q m w y (Some (best_edge k (pence (w k)) (scaled (utility q (w k) (y k))) (scaled s)))
+  none : NoneOpen p q m w y → Choice p q m w y None
 
 -- The computed answer is right, and there is only one right answer
 abbrev pub BestIsChosen : Type 0

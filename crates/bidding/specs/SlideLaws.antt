@@ -1,19 +1,19 @@
 -- Statements about the four steps: what the first two mean, what the last two are on plain numbers, and that in turn they are the bid, the chain and the
 -- moves as the rule defines them. These hold on every board, sound or not, and so "at every bid of every call on a sound board" (document 02, R-5).
-use Rattle.std.specs.Prelude.{◌≡◌, List, ℕ, suc, ◌+◌, ◌-◌, ◌*◌, ◌<◌, ◌≤◌, set}
+use Rattle.std.specs.Prelude.{◌≡◌, Option, Some, None, List, ℕ, suc, ◌+◌, ◌-◌, ◌*◌, ◌<◌, ◌≤◌, set}
 use Rattle.duality.specs.Lists.{cells}
 use Rattle.duality.specs.Steps.{utility, Open}
 use Rattle.board.specs.declared.record.Auction.{Auction}
 use Rattle.board.specs.declared.record.Market.{Market}
+use Rattle.board.specs.declared.record.State.{State}
 use Rattle.board.specs.declared.record.Holder.TheVariants.{Held, Free}
 use Rattle.board.specs.declared.units.Pence.{Pence}
 use Rattle.board.specs.declared.units.Scaled.{Scaled}
-use Rattle.bidding.specs.declared.rule.BestEdge.{BestEdge}
-use Rattle.bidding.specs.declared.rule.BestEdge.TheVariants.{At, Nothing}
+use Rattle.bidding.specs.declared.rule.Best.{Best}
+use Rattle.bidding.specs.Rule.{best_edge, raised_to, AfterChain, Outcome, done, after_chain, best_of, settle_of}
 use Rattle.board.specs.Limits.{max_weight}
-use Rattle.board.specs.Cells.{auction, price_at, holder_of}
+use Rattle.board.specs.Cells.{auction, price_at, holder_of, scaled, scaled_at}
 use Rattle.board.specs.Live.{live}
-use Rattle.bidding.specs.Rule.{raised_to, AfterChain, Outcome, done, after_chain, best_of, settle_of}
 use Rattle.bidding.specs.RuleLaws.{Choice}
 use Rattle.bidding.specs.Moves.{arrived_of}
 use Rattle.bidding.specs.Withdrawals.{withdrawn_of}
@@ -50,13 +50,25 @@ RoundedUp = (q w y : ℕ) → 0 < q → w ≤ max_weight → y < q * w →
 
 -- ---- Steps 3 and 4
 
--- On lists of plain numbers, as the code has them: the board that they come to
+-- On lists of plain numbers: the board that they come to
 abbrev pub PlainSteps : Type 0
 PlainSteps =
     (market : Market) (weights prices holders gains : List ℕ) (i k w lead s : ℕ) →
     auction market weights
     (state_of (set prices k (raised_to market.slack.p w lead (cells prices k))) (handed_to holders k i) (gains_to 0 gains i s (holder_of (cells holders k)))) ≡
     (handed_over (priced (auction market weights (state_of prices holders gains)) k w lead) i k s).auction
+
+-- On the lists of a state, as the code changes them
+abbrev pub StateSteps : Type 0
+StateSteps =
+    (market : Market) (weights : List ℕ) (state : State) (i k w lead : ℕ) (s : Scaled) →
+    auction market weights
+    (record {
+      price = set state.price k (scaled (raised_to market.slack.p w lead (scaled_at state.price k)));
+      holder = handed_to state.holder k i;
+      gain = gains_to (scaled 0) state.gain i s (holder_of (cells state.holder k));
+    }) ≡
+    (handed_over (priced (auction market weights state) k w lead) i k s.0).auction
 
 -- ---- All four
 
@@ -72,17 +84,17 @@ BidBySlides = (again : Auction → ℕ → ℕ → Outcome AfterChain) (b : Auct
 abbrev pub tested_for : Auction → ℕ → ℕ → ℕ
 tested_for b i = test_open b.market.slack.p b.market.slack.q (live b i) (price_at b)
 
-abbrev pub picked_for : Auction → ℕ → BestEdge
+abbrev pub picked_for : Auction → ℕ → Option Best
 picked_for b i = pick_of b.market.slack.q (tested_for b i) (price_at b) b.market.items
 
 abbrev pub handed_for : Auction → ℕ → ℕ → Pence → Scaled → Scaled → HandedOver
 handed_for b i k w u s = handed_over (priced b k w.0 (u.0 - s.0)) i k s.0
 
 pub record InTurn (again : Auction → ℕ → ℕ → Outcome AfterChain) (b : Auction) (i bids : ℕ) : Type 0 where
-  pub nothing : picked_for b i ≡ Nothing → bid_until_now again b i bids ≡ done (after_chain b bids)
-  pub free : (k : ℕ) (w : Pence) (u s : Scaled) → picked_for b i ≡ At k w u s → (handed_for b i k w u s).before ≡ Free →
+  pub nothing : picked_for b i ≡ None → bid_until_now again b i bids ≡ done (after_chain b bids)
+  pub free : (k : ℕ) (w : Pence) (u s : Scaled) → picked_for b i ≡ Some (best_edge k w u s) → (handed_for b i k w u s).before ≡ Free →
       bid_until_now again b i bids ≡ done (after_chain (handed_for b i k w u s).auction (bids + 1))
-  pub held : (k : ℕ) (w : Pence) (u s : Scaled) (x : ℕ) → picked_for b i ≡ At k w u s → (handed_for b i k w u s).before ≡ Held x →
+  pub held : (k : ℕ) (w : Pence) (u s : Scaled) (x : ℕ) → picked_for b i ≡ Some (best_edge k w u s) → (handed_for b i k w u s).before ≡ Held x →
       bid_until_now again b i bids ≡ again (handed_for b i k w u s).auction x (bids + 1)
 
 abbrev pub StepsInTurn : Type 0

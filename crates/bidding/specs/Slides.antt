@@ -2,13 +2,12 @@
 -- multiplicative auction reads "While ∃ v ∈ V unallocated, util(uv) > ε · w(uv), v bids y_u + ε · w(uv) and allocated max util u". Since R-7 the pick also
 -- answers the second utility, the price is bid up by the lead more, and the gain is the second utility. A function for each step; then a bid, a chain, an
 -- arrival and a withdrawal in which every bid is these four in turn. SlideLaws compares each with the rule's.
-use Rattle.std.specs.Prelude.{cond, List, [], ◌∷◌, ℕ, zero, suc, ◌+◌, ◌-◌, ◌*◌, set, ltb}
+use Rattle.std.specs.Prelude.{Option, Some, None, cond, List, [], ◌∷◌, ℕ, zero, suc, ◌+◌, ◌-◌, ◌*◌, set, ltb}
 use Rattle.duality.specs.Steps.{utility}
 use Rattle.board.specs.declared.record.Auction.{Auction}
 use Rattle.board.specs.declared.record.Holder.{Holder}
 use Rattle.board.specs.declared.record.Holder.TheVariants.{Held, Free}
-use Rattle.bidding.specs.declared.rule.BestEdge.{BestEdge}
-use Rattle.bidding.specs.declared.rule.BestEdge.TheVariants.{At, Nothing}
+use Rattle.bidding.specs.declared.rule.Best.{Best}
 use Rattle.board.specs.Cells.{scaled, with_state, price_at, holder_at, holder_of}
 use Rattle.board.specs.Live.{live}
 use Rattle.bidding.specs.Rule.{ranked, raised_to, AfterChain, after_chain, Outcome, done, spent, best_for, bid_of, fuel_of}
@@ -23,11 +22,11 @@ test_open p q w y k = cond (ltb (p * w k) (utility q (w k) (y k))) (w k) 0
 -- ---- Step 2, pick: "max util u". Of the edges of weights w the one of greatest utility; of equal ones the heaviest, and of these that at the lowest item.
 -- An edge that step 1 has put at 0 has no utility. "Now the leaf that finds the best place also returns the greatest utility of any other open place of
 -- that batch, 0 if none" (document 02, R-7)
-unfoldable pub take_of : ℕ → ℕ → ℕ → ℕ → BestEdge → BestEdge
+unfoldable pub take_of : ℕ → ℕ → ℕ → ℕ → Option Best → Option Best
 take_of q k w y best = cond (ltb 0 (utility q w y)) (ranked k w (utility q w y) best) best
 
-unfoldable pub pick_of : ℕ → (ℕ → ℕ) → (ℕ → ℕ) → ℕ → BestEdge
-pick_of q w y zero = Nothing
+unfoldable pub pick_of : ℕ → (ℕ → ℕ) → (ℕ → ℕ) → ℕ → Option Best
+pick_of q w y zero = None
 pick_of q w y (suc k) = take_of q k (w k) (y k) (pick_of q w y k)
 
 -- ---- Step 3, price: "v bids y_u + ε · w(uv)", since R-7 with the lead besides, which is the item's price from then on
@@ -72,11 +71,11 @@ unfoldable pub next_bidder : (Auction → ℕ → ℕ → Outcome AfterChain) �
 next_bidder again b bids Free = done (after_chain b bids)
 next_bidder again b bids (Held x) = again b x bids
 
-unfoldable pub after_pick : (Auction → ℕ → ℕ → Outcome AfterChain) → Auction → ℕ → ℕ → BestEdge → Outcome AfterChain
-after_pick again b i bids Nothing = done (after_chain b bids)
-after_pick again b i bids (At k w u s) =
-    let c = priced b k w.0 (u.0 - s.0) in
-    let d = handed_over c i k s.0 in
+unfoldable pub after_pick : (Auction → ℕ → ℕ → Outcome AfterChain) → Auction → ℕ → ℕ → Option Best → Outcome AfterChain
+after_pick again b i bids None = done (after_chain b bids)
+after_pick again b i bids (Some e) =
+    let c = priced b e.item e.weight.0 (e.utility.0 - e.second.0) in
+    let d = handed_over c i e.item e.second.0 in
     next_bidder again d.auction (bids + 1) d.before
 
 unfoldable pub bid_by_slides : (Auction → ℕ → ℕ → Outcome AfterChain) → Auction → ℕ → ℕ → Outcome AfterChain

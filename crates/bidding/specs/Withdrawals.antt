@@ -1,10 +1,10 @@
 -- The withdrawal of a list of items (document 02, R-3): "All go first; then the displaced batches bid in number order, each chain run to its end".
 -- `item` reads the list's cells, each an item's number, and n is how many there are.
-use Rattle.std.specs.Prelude.{◌≡◌, Bool, false, cond, ◌||◌, List, [], ◌∷◌, ◌++◌, ℕ, zero, suc, ◌+◌, ◌-◌, ◌<◌, eqb}
+use Rattle.std.specs.Prelude.{◌≡◌, Bool, false, cond, ◌||◌, List, [], ◌∷◌, ◌++◌, ℕ, zero, suc, ◌+◌, ◌-◌, ◌<◌, eqb, get_or}
 use Rattle.board.specs.declared.record.Auction.{Auction}
 use Rattle.board.specs.declared.record.Holder.{Holder}
 use Rattle.board.specs.declared.record.Holder.TheVariants.{Held, Free}
-use Rattle.board.specs.Cells.{holder_at, holder_of, flag_at}
+use Rattle.board.specs.Cells.{holder_at, holder_of}
 use Rattle.board.specs.Live.{matching_of}
 use Rattle.bidding.specs.Rule.{AfterChain, Chain, Outcome, done, spent, after_chain, displaced, settle_of, fuel_of}
 use Rattle.bidding.specs.Moves.{released}
@@ -45,10 +45,14 @@ roll_of member (suc m) = cond (member m) (roll_of member m ++ (m ∷ [])) (roll_
 abbrev pub displaced_by : Auction → (ℕ → ℕ) → ℕ → List ℕ
 displaced_by b item n = roll_of (holds_named b item n) b.market.arrived
 
+-- Whether bidder h + 1 is marked
+abbrev pub marked : List Bool → ℕ → Bool
+marked waiting h = get_or waiting h false
+
 -- Items have left: the board after the first n, and a list of marks of those who held one
-pub record Vacates (b : Auction) (item : ℕ → ℕ) (n : ℕ) (c : Auction) (waiting : List ℕ) : Type 0 where
+pub record Vacates (b : Auction) (item : ℕ → ℕ) (n : ℕ) (c : Auction) (waiting : List Bool) : Type 0 where
   pub board : c ≡ vacated_to b item n
-  pub marks : (h : ℕ) → h < b.market.arrived → flag_at waiting h ≡ holds_named b item n h
+  pub marks : (h : ℕ) → h < b.market.arrived → marked waiting h ≡ holds_named b item n h
 
 -- ---- "bid .., each chain run to its end": the chains that bidders begin, one after the other; the board after the last, and the number of all bids.
 -- A bidder that a chain displaces bids within that chain

@@ -1,24 +1,28 @@
 // The floor of an item: the greatest weight whose edge is not open at its price. The slide's util(uv) > ε · w(uv) is q × w - y > p × w, which is
 // (q - p) × w > y, and so w > y / (q - p). A bid moves one price, and a row has 64 weights: so rows are tested against floors, without a product.
 // Beside it the price in whole pence, y / q: what is left of a weight over it is the utility in pence, rounded up.
-ghost use Rattle.std.specs.Prelude.{◌≡◌, cond, ◌≤◌, ◌<◌, length};
+ghost use Rattle.std.specs.Prelude.{◌≡◌, cond, ◌≤◌, ◌<◌, min, set};
 ghost use Rattle.board.specs.Limits.{max_items, max_weight};
 ghost use Rattle.board.specs.Cells.{scaled_at};
 ghost use Rattle.bidding.specs.Floors.{floor_of, pence_of, Floored};
 
 use board::record::{Auction, Market};
-use board::units::{Scaled, Slack};
+use board::units::{Pence, Scaled, Slack};
 
-// The floor at a price. No weight is over MAX_WEIGHT, so no floor needs to be.
+// A weight, but no more than MAX_WEIGHT: none is over that, so neither a floor nor a price in pence needs to be.
+// By `as`, here and where a number is narrowed: the contract has the bound, and `TryFrom` would answer an error that cannot be.
+fn capped(weight: Pence) -> u32
+    ensures { result ≡ min weight.0 max_weight }
+{
+    weight.0.min(Auction::MAX_WEIGHT) as u32
+}
+
+// The floor at a price.
 pub(crate) fn floor_of(price: Scaled, slack: Slack) -> u32
     requires { slack.p < slack.q }
     ensures { result ≡ floor_of slack.p slack.q price.0 }
 {
-    let floor = slack.floor(price);
-    if floor.0 > Auction::MAX_WEIGHT {
-        return Auction::MAX_WEIGHT as u32;
-    }
-    floor.0 as u32
+    capped(slack.floor(price))
 }
 
 // The floor of an item. No edge at one that is withdrawn is live, and none is open.
@@ -37,29 +41,42 @@ pub(crate) fn pence_of(price: Scaled, slack: Slack) -> u32
     requires { slack.p < slack.q }
     ensures { result ≡ pence_of slack.q price.0 }
 {
-    let pence = slack.pence(price);
-    if pence.0 > Auction::MAX_WEIGHT {
-        return Auction::MAX_WEIGHT as u32;
-    }
-    pence.0 as u32
+    capped(slack.pence(price))
 }
 
-// The floors of all items, and their prices in whole pence, to lent lists.
-pub fn file_floors(
-    market: Market,
-    price: [Scaled; Auction::MAX_ITEMS],
-    floors: &mut [u32; Auction::MAX_ITEMS],
-    pence: &mut [u32; Auction::MAX_ITEMS],
-)
-    requires { (market.items ≤ max_items) × (market.slack.p < market.slack.q) × (length floors.old ≡ max_items) × (length pence.old ≡ max_items) }
-    ensures { Floored market (scaled_at price) floors.new pence.new }
-{
-    let items = market.items as usize;
-    let slack = market.slack;
-    let mut k: usize = 0;
-    while k < items {
-        floors[k] = floor_at(price[k], market.withdrawn[k] != 0, slack);
-        pence[k] = pence_of(price[k], slack);
-        k += 1;
+// The floors of the items, and their prices in whole pence. Two lists, since the definitions `Least` and `InPence` are each of one, and a pick is lent the
+// second alone.
+#[derive(Clone, Copy)]
+pub struct Floors {
+    pub least: [u32; Auction::MAX_ITEMS],
+    pub pence: [u32; Auction::MAX_ITEMS],
+}
+
+impl Floors {
+    // Those of a market's items at their prices.
+    pub fn of(market: &Market, price: &[Scaled; Auction::MAX_ITEMS]) -> Self
+        requires items { market.now.items ≤ max_items }
+        requires slack { market.now.slack.p < market.now.slack.q }
+        ensures { Floored market.now (scaled_at price.now) result }
+    {
+        let slack = market.slack;
+        let mut least = [0u32; Auction::MAX_ITEMS];
+        let mut pence = [0u32; Auction::MAX_ITEMS];
+        for k in 0..market.items as usize {
+            least[k] = floor_at(price[k], market.withdrawn[k] != 0, slack);
+            pence[k] = pence_of(price[k], slack);
+        }
+        Floors { least, pence }
+    }
+
+    // The price of an item is now another, above the one before.
+    pub(crate) fn raise(&mut self, item: usize, price: Scaled, slack: Slack)
+        requires item { item < max_items }
+        requires slack { slack.p < slack.q }
+        ensures least { self.new.least ≡ set self.old.least item (floor_of slack.p slack.q price.0) }
+        ensures pence { self.new.pence ≡ set self.old.pence item (pence_of slack.q price.0) }
+    {
+        self.least[item] = floor_of(price, slack);
+        self.pence[item] = pence_of(price, slack);
     }
 }

@@ -13,118 +13,76 @@ ghost use Rattle.bidding.specs.Floors.{Floored};
 ghost use Rattle.bidding.specs.Waiting.{RowFits};
 
 use crate::chain::{settle, settle_all};
-use crate::floors::file_floors;
-use board::record::{Auction, Market, State};
+use crate::floors::Floors;
+use board::record::{Auction, Holder, Market, State, holder_of};
 use board::units::Scaled;
 
-// Market and state after a move and its chains of bids, and how many the bids were.
-#[derive(Clone, Copy)]
-pub struct Moved {
-    pub market: Market,
-    pub state: State,
-    pub bids: u64,
-}
-
 // A row, written among the weights from a cell on.
-fn file_row(weights: &mut [u32; Auction::MAX_CELLS], from: usize, row: [u32; Auction::MAX_ITEMS])
+fn file_row(weights: &mut [u32; Auction::MAX_CELLS], from: usize, row: &[u32; Auction::MAX_ITEMS])
     requires { from + max_items ≤ max_bidders * max_items }
-    ensures { weights.new ≡ sets weights.old from row }
+    ensures { weights.new ≡ sets weights.old from row.now }
 {
-    let mut k: usize = 0;
-    while k < Auction::MAX_ITEMS {
-        weights[from + k] = row[k];
-        k += 1;
-    }
+    weights[from..from + Auction::MAX_ITEMS].copy_from_slice(row);
 }
 
-// The new bidder's row is filed, and the bidder bids.
+// The new bidder's row is filed, and the bidder bids. How many the bids were.
 pub fn enter(
-    mut market: Market,
+    market: &mut Market,
     weights: &mut [u32; Auction::MAX_CELLS],
-    state: State,
-    floors: &mut [u32; Auction::MAX_ITEMS],
-    pence: &mut [u32; Auction::MAX_ITEMS],
-    row: [u32; Auction::MAX_ITEMS],
-) -> Moved
-    requires { Sound (auction market weights.old state) × (market.arrived < max_bidders) × RowFits market.items row ×
-        Floored market (scaled_at state.price) floors.old pence.old }
-    ensures { (done (after_chain (auction result.market weights.new result.state) result.bids) ≡ arrived_of (auction market weights.old state) row) ×
-        Floored result.market (scaled_at result.state.price) floors.new pence.new }
+    state: &mut State,
+    floors: &mut Floors,
+    row: &[u32; Auction::MAX_ITEMS],
+) -> u64
+    requires sound { Sound (auction market.old weights.old state.old) }
+    requires room { market.old.arrived < max_bidders }
+    requires row { RowFits market.old.items row.now }
+    requires floored { Floored market.old (scaled_at state.old.price) floors.old }
+    ensures arrived { done (after_chain (auction market.new weights.new state.new) result) ≡ arrived_of (auction market.old weights.old state.old) row.now }
+    ensures floored { Floored market.new (scaled_at state.new.price) floors.new }
 {
     let newcomer = market.arrived as usize;
     file_row(weights, newcomer * Auction::MAX_ITEMS, row);
-    market.arrived = market.arrived + 1;
-    let end = settle(market, weights, state, floors, pence, newcomer);
-    let after = end.state;
-    Moved {
-        market,
-        state: after,
-        bids: end.bids,
-    }
+    market.arrived += 1;
+    settle(market, weights, state, floors, newcomer)
 }
 
-// Market and state after items have left, and a mark for each bidder that held one.
-#[derive(Clone, Copy)]
-struct Vacated {
-    market: Market,
-    state: State,
-    waiting: [u8; Auction::MAX_BIDDERS],
-}
-
-// "All go first": the items leave the live edges, and whoever held one is unplaced and marked. Nobody bids.
-fn vacate(mut market: Market, mut state: State, items: &[u64]) -> Vacated
-    requires { (w : List ℕ) × Sound (auction market w state) × Listed (auction market w state) (cells items.now) (length items.now) }
-    ensures { (w : List ℕ) → Sound (auction market w state) →
-        Vacates (auction market w state) (cells items.now) (length items.now) (auction result.market w result.state) result.waiting }
+// "All go first": the items leave the live edges, and whoever held one is unplaced and marked. Nobody bids. A mark for each bidder that held one.
+fn vacate(market: &mut Market, state: &mut State, items: &[u64]) -> [bool; Auction::MAX_BIDDERS]
+    requires { (w : List ℕ) × Sound (auction market.old w state.old) × Listed (auction market.old w state.old) (cells items.now) (length items.now) }
+    ensures { (w : List ℕ) → Sound (auction market.old w state.old) →
+        Vacates (auction market.old w state.old) (cells items.now) (length items.now) (auction market.new w state.new) result }
 {
-    let mut waiting = [0u8; Auction::MAX_BIDDERS];
-    let mut i: usize = 0;
-    while i < items.len() {
-        let k = (items[i] - 1) as usize;
-        let held = state.holder[k];
+    let mut waiting = [false; Auction::MAX_BIDDERS];
+    for item in items {
+        let k = (*item - 1) as usize;
+        let before = holder_of(state.holder[k]);
         state.price[k] = Scaled(0);
         state.holder[k] = 0;
         market.withdrawn[k] = 1;
-        if held != 0 {
-            let bidder = held as usize - 1;
+        if let Holder::Held(bidder) = before {
             state.gain[bidder] = Scaled(0);
-            waiting[bidder] = 1;
+            waiting[bidder] = true;
         }
-        i += 1;
     }
-    Vacated {
-        market,
-        state,
-        waiting,
-    }
+    waiting
 }
 
-// All items of a list leave, and then those who held one bid, in rising number. Whatever the lent lists held, they are the floors at the end.
+// All items of a list leave, and then those who held one bid, in rising number. Whatever the floors were, they are those of the prices at the end. How many the
+// bids were.
 pub fn release(
-    market: Market,
+    market: &mut Market,
     weights: &[u32; Auction::MAX_CELLS],
-    state: State,
-    floors: &mut [u32; Auction::MAX_ITEMS],
-    pence: &mut [u32; Auction::MAX_ITEMS],
+    state: &mut State,
+    floors: &mut Floors,
     items: &[u64],
-) -> Moved
-    requires { Sound (auction market weights.now state) × Listed (auction market weights.now state) (cells items.now) (length items.now) ×
-        (length floors.old ≡ max_items) × (length pence.old ≡ max_items) }
-    ensures { (done (after_chain (auction result.market weights.now result.state) result.bids) ≡
-        withdrawn_of (auction market weights.now state) (cells items.now) (length items.now)) ×
-        Floored result.market (scaled_at result.state.price) floors.new pence.new }
+) -> u64
+    requires sound { Sound (auction market.old weights.now state.old) }
+    requires listed { Listed (auction market.old weights.now state.old) (cells items.now) (length items.now) }
+    ensures withdrawn { done (after_chain (auction market.new weights.now state.new) result) ≡
+        withdrawn_of (auction market.old weights.now state.old) (cells items.now) (length items.now) }
+    ensures floored { Floored market.new (scaled_at state.new.price) floors.new }
 {
-    let left = vacate(market, state, items);
-    let after = left.market;
-    let unheld = left.state;
-    let waiting = left.waiting;
-    let price = unheld.price;
-    file_floors(after, price, floors, pence);
-    let end = settle_all(after, weights, unheld, floors, pence, waiting);
-    let settled = end.state;
-    Moved {
-        market: after,
-        state: settled,
-        bids: end.bids,
-    }
+    let waiting = vacate(market, state, items);
+    *floors = Floors::of(market, &state.price);
+    settle_all(market, weights, state, floors, &waiting)
 }

@@ -1,14 +1,13 @@
 -- The rows of the weights, after one of them is written.
-use mathlib.Core.Path.{◌≡◌, refl, sym, ap, ◌∙◌}
+use mathlib.Core.Path.{◌≡◌, refl, sym, ◌∙◌}
 use mathlib.Core.Logic.{◌≢◌, ◌⊎◌, inl, inr, ⊎_elim, by_cases}
 use mathlib.Core.List.{List, [], ◌∷◌, ◌++◌}
 use Prim.Native.Nat.{ℕ, zero, suc, ◌+◌, ◌*◌, ◌≤◌, ◌<◌}
 use native.Mathlib.Nat.{mul-le-mul, le_refl}
 use native.Mathlib.Decide.{dec_lt}
 use native.Mathlib.Omega.{arith}
-use lib.ListN.{length, get_or, set, take, drop, length-set, length-take, length-drop}
-use lib.Seq.{sets, length-sets, get_or-set_same, get_or-set_other, get_or-take, get_or-drop, ext_get_or, take-suc, take_all}
-use native.Mathlib.Numerals.{add-one}
+use lib.ListN.{length, get_or, set, drop, length-set, length-take, length-drop}
+use lib.Seq.{sets, length-sets, get_or-set_same, get_or-set_other, get_or-take, get_or-drop, ext_get_or}
 use Rattle.board.specs.Limits.{max_items}
 use Rattle.board.specs.Cells.{row_in}
 
@@ -61,11 +60,3 @@ new_row w row a s f =
 sets-append : (xs ys l : List ℕ) (at : ℕ) → sets l at (xs ++ ys) ≡ sets (sets l at xs) (at + length xs) ys
 sets-append [] ys l at = let e : at + 0 ≡ at = omega arith in rw e
 sets-append (x ∷ xs) ys l at = let e : at + suc (length xs) ≡ suc at + length xs = omega arith in rw e (sets-append xs ys (set l at x) (suc at))
-
-pub file-next : (l m row : List ℕ) (from k : ℕ) → k < length row → m ≡ sets l from (take k row) → set m (from + k) (get_or row k 0) ≡ sets l from (take (k + 1) row)
-file-next l m row from k n e =
-    let s : length (take k row) ≡ k = omega (arith, length-take k row) in
-    rw (add-one, take-suc row k 0, sets-append, s, e)
-
-pub file-end : (l m row : List ℕ) (from k : ℕ) → length row ≤ k → m ≡ sets l from (take k row) → m ≡ sets l from row
-file-end l m row from k n e = e ∙ ap (sets l from) (take_all k row n)

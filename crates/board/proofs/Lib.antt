@@ -11,3 +11,4 @@ pub mod SoundPass
 pub mod SoundTests
 pub mod Tests
 pub mod Written
+pub mod Sums

@@ -2,6 +2,7 @@
 use mathlib.Core.Path.{◌≡◌, refl, sym, ◌∙◌}
 use mathlib.Core.Bool.{true, false, not, ◌&&◌}
 use mathlib.Core.List.{List}
+use Rattle.std.specs.Prelude.{Some, None}
 use mathlib.Core.Logic.{by_cases}
 use Prim.Native.Nat.{ℕ, zero, suc, ◌+◌, ◌≤◌, ◌<◌}
 use native.Mathlib.Nat.{suc_inj}
@@ -96,19 +97,18 @@ module _ (holder : List ℕ) (items arrived k : ℕ) (item : List ℕ) (small : 
       other i l ne =
           get_or-set_other item cell (suc i) (suc k) 0 (λ x. ne (sym x)) ∙ (p.items i l ∙ sym (held-before holder k i (λ x. ne (read ∙ x))))
 
-  unplaced : (Holders holder items arrived → ⊥) → PlacingOf holder items arrived (record { apart = false; item = item })
-  unplaced h =
-      record { apart = false-is _ (holders-decide holder items arrived) h; item = λ e. absurd (clash false e refl) }
+  unplaced : (Holders holder items arrived → ⊥) → PlacingOf holder items arrived None
+  unplaced h = sym (false-is _ (holders-decide holder items arrived) h)
 
   -- One more cell, that names a bidder that has not arrived
   pub placed-absent : k < items → (cell : ℕ) → cell ≡ get_or holder k 0 → arrived < cell →
-      PlacingOf holder items arrived (record { apart = false; item = item })
+      PlacingOf holder items arrived None
   placed-absent l zero read high = absurd (omega arith)
   placed-absent l (suc i) read high = unplaced (λ h. omega (arith, (h k i l (sym read)).0))
 
   -- One more cell, that names a bidder that has an item already
   pub placed-twice : k < items → (cell : ℕ) → cell ≡ get_or holder k 0 → cell ≤ arrived →
-      (not (eqb cell 0) && not (eqb (get_or item cell 0) 0)) ≡ true → PlacingOf holder items arrived (record { apart = false; item = item })
+      (not (eqb cell 0) && not (eqb (get_or item cell 0) 0)) ≡ true → PlacingOf holder items arrived None
   placed-twice l zero read low test = absurd (((taken-decides 0 (get_or item 0 0)).sound test).0 refl)
   placed-twice l (suc i) read low test = unplaced (λ h. go h (held_by holder k i) refl)
     where
@@ -119,6 +119,6 @@ module _ (holder : List ℕ) (items arrived k : ℕ) (item : List ℕ) (small : 
           omega (arith, r.0, (h k i l (sym read)).1, (h j i (omega (arith, r.0)) r.1).1)
 
 -- All cells read
-pub placed-all : (holder : List ℕ) (items arrived : ℕ) (item : List ℕ) → Placed holder arrived items item → PlacingOf holder items arrived (record { apart = true; item = item })
+pub placed-all : (holder : List ℕ) (items arrived : ℕ) (item : List ℕ) → Placed holder arrived items item → PlacingOf holder items arrived (Some item)
 placed-all holder items arrived item p =
-    record { apart = true-is (holders-decide holder items arrived) p.holders; item = λ e. p.items }
+    record { apart = sym (true-is (holders-decide holder items arrived) p.holders); held = p.items }

@@ -15,11 +15,10 @@ use Rattle.duality.specs.Decide.{Decides}
 use Rattle.duality.proofs.Decide.{le-decides, eq-decides, true-decides, and-decides, all-decides, from-decides, reword, clash}
 use Rattle.board.specs.declared.record.Auction.{Auction}
 use Rattle.board.specs.declared.units.Scaled.{Scaled}
-use Rattle.board.specs.declared.sound.Placing.{Placing}
 use Rattle.board.specs.Limits.{max_items, max_bidders, max_weight, max_q}
 use Rattle.board.specs.Cells.{scaled_at, flag_at, price_at, gain_at, withdrawn_at, weight_at}
 use Rattle.board.specs.Live.{matching_of}
-use Rattle.board.specs.SoundTest.{formed_test, limits_test, holders_test, items_test, limit_at, used_by, row_test, pair_test, place_test}
+use Rattle.board.specs.SoundTest.{limit_at, used_by, row_test, pair_test, place_test}
 use Rattle.board.specs.SoundPass.{max_need, lack_of, room_of, LimitsOf, LacksOf, Bounded, need_test, needs_test, empty_test, rows_test}
 use Rattle.board.proofs.SoundTests.{limit-past, used-arrived, used-absent, EdgeHolds, EdgeAt, row-decides}
 
@@ -153,12 +152,3 @@ module _ (b : Auction) (i k w : ℕ) where
       cond (eqb c 0) (eqb (gain_at b i) 0) (pair_test (b.market.slack.q + b.market.slack.p) w (price_at b k) (withdrawn_at b k) (gain_at b i))
       ≡ place_test b i (matching_of b i)
   place_read c e below weight = place-cell c below weight ∙ ap (place_test b i) e
-
--- What the code has at hand when it comes to the bidders' places
-pub record Ready (b : Auction) (p : Placing) : Type 0 where
-  pub formed : formed_test b ≡ true
-  pub limits : limits_test b.market.items b.market.arrived b.market.slack.p b.market.slack.q ≡ true
-  pub holders : holders_test b.state.holder b.market.items b.market.arrived ≡ true
-  pub items : items_test b.state.price b.state.holder b.market.withdrawn b.market.items ≡ true
-  pub rows : (i : ℕ) → i < max_bidders → row_test b i ≡ true
-  pub places : (i : ℕ) → i < max_bidders → get_or p.item (i + 1) 0 ≡ matching_of b i

@@ -1,10 +1,12 @@
 -- Laws of a list whose first cells are written.
 use mathlib.Core.Path.{◌≡◌, refl, ◌∙◌}
-use mathlib.Core.List.{List}
+use mathlib.Core.List.{List, ◌++◌, append_assoc}
 use Prim.Native.Nat.{ℕ, zero, suc, ◌+◌, ◌≤◌, ◌<◌}
 use native.Mathlib.Numerals.{add-one}
 use native.Mathlib.Omega.{arith}
 use lib.ListN.{length, get_or, set, length-set}
+use Rattle.std.proofs.Common.{take, drop, drop-cons, length-take}
+use Rattle.std.proofs.Math.Seq.{take-suc, set-append_seam}
 use lib.Seq.{get_or-set_same, get_or-set_other}
 use Rattle.duality.proofs.Below.{one_more}
 use Rattle.board.specs.Lent.{written, lists}
@@ -51,3 +53,15 @@ written_as (suc n) f g l e = rw (written_as n f g l (λ i m. e i (omega arith)),
 pub lists-as : {plan plan' prices prices' gains gains' : List ℕ} → plan ≡ plan' → prices ≡ prices' → gains ≡ gains' →
     lists plan prices gains ≡ lists plan' prices' gains'
 lists-as e f g = rw (e, f, g)
+
+-- The first numbers of a list, copied
+pub written-copied : (n : ℕ) (xs l : List ℕ) → n ≤ length xs → n ≤ length l → take n xs ++ drop n l ≡ written n (λ k. get_or xs k 0) l
+unfolding written
+written-copied zero xs l a b = refl
+written-copied (suc n) xs l a b =
+    let seam = set-append_seam (take n xs) (get_or l n 0) (drop (suc n) l) (get_or xs n 0) in
+    let size : length (take n xs) ≡ n = omega (arith, length-take n xs) in
+    rw (take-suc xs n 0 (omega arith), append_assoc, ← seam, size, ← drop-cons l n 0 (omega arith), written-copied n xs l (omega arith) (omega arith)) refl
+
+pub written-front : (n : ℕ) (xs ys l : List ℕ) → ys ≡ take n xs → n ≤ length xs → n ≤ length l → ys ++ drop n l ≡ written n (λ k. get_or xs k 0) l
+written-front n xs ys l e a b = rw e (written-copied n xs l a b)

@@ -1,18 +1,20 @@
 -- How the code reads a board in the test that it is sound. What it makes on the way is said here, in terms of the test's own parts.
-use Rattle.std.specs.Prelude.{◌≡◌, Bool, true, cond, ◌&&◌, ◌||◌, List, ℕ, suc, ◌+◌, ◌-◌, ◌*◌, ◌≤◌, ◌<◌, min, get_or, eqb, ltb, leb}
+use Rattle.std.specs.Prelude.{◌≡◌, Bool, true, false, cond, Option, MatchOption, ◌&&◌, ◌||◌, List, ℕ, suc, ◌+◌, ◌-◌, ◌*◌, ◌≤◌, ◌<◌, min, get_or, eqb, ltb, leb}
 use Rattle.duality.specs.Decide.{all_below}
 use Rattle.board.specs.declared.record.Auction.{Auction}
 use Rattle.board.specs.declared.units.Scaled.{Scaled}
-use Rattle.board.specs.declared.sound.Placing.{Placing}
 use Rattle.board.specs.Limits.{max_items, max_bidders, max_weight, max_q}
 use Rattle.board.specs.Cells.{scaled_at, flag_at}
 use Rattle.board.specs.Live.{held_by, matching_of}
 use Rattle.board.specs.SoundTest.{holders_test, limit_at, row_test, place_test}
 
--- Who has which item, found in one pass over the items' cells: whether these pass their test and, if so, each bidder's cell of the matching
-pub record PlacingOf (holder : List ℕ) (items arrived : ℕ) (r : Placing) : Type 0 where
-  pub apart : r.apart ≡ holders_test holder items arrived
-  pub item : r.apart ≡ true → (i : ℕ) → i < max_bidders → get_or r.item (suc i) 0 ≡ held_by holder items i
+-- Who has which item, found in one pass over the items' cells: each bidder's cell of the matching, where these pass their test
+pub record Apart (holder : List ℕ) (items arrived : ℕ) (item : List ℕ) : Type 0 where
+  pub apart : holders_test holder items arrived ≡ true
+  pub held : (i : ℕ) → i < max_bidders → get_or item (suc i) 0 ≡ held_by holder items i
+
+abbrev pub PlacingOf : List ℕ → ℕ → ℕ → Option (List ℕ) → Type 0
+PlacingOf holder items arrived r = MatchOption r (holders_test holder items arrived ≡ false) (Apart holder items arrived)
 
 -- The most that an edge within limits asks of gain and price: q - p times its weight is no more
 abbrev pub max_need : ℕ

@@ -9,7 +9,8 @@ ghost use Rattle.board.specs.Lent.{room_test, Matched, ColumnsOf, written, writt
 use crate::record::{Auction, State};
 use crate::units::Scaled;
 
-// A matching, prices and gains as a caller's lists have them: a cell for each bidder, item and bidder.
+// A matching, prices and gains as a caller's lists have them: a cell for each bidder, item and bidder. Three arrays side by side, since callers of C
+// lend three lists.
 #[derive(Clone, Copy)]
 pub struct Columns {
     pub plan: [u64; Auction::MAX_BIDDERS],
@@ -18,89 +19,64 @@ pub struct Columns {
 }
 
 // Whether three lists have a cell for each bidder, item and bidder.
+#[tactic(auto, unfolding(crate::specs::Lent::room_test))]
 pub fn has_room(bidders: usize, items: usize, plan: usize, prices: usize, gains: usize) -> bool
     ensures { result ≡ room_test bidders items plan prices gains }
 {
-    if plan < bidders {
-        return false;
-    }
-    if prices < items {
-        return false;
-    }
-    bidders <= gains
+    bidders <= plan && items <= prices && bidders <= gains
 }
 
 // The matching: for each bidder the number of its item, or 0.
 pub fn matching_of(holder: [u8; Auction::MAX_ITEMS], items: usize) -> [u64; Auction::MAX_BIDDERS]
-    requires { (items ≤ max_items) × ((k : ℕ) → k < items → cells holder k ≤ max_bidders) }
+    requires items { items ≤ max_items }
+    requires holders { (k : ℕ) → k < items → cells holder k ≤ max_bidders }
     ensures { Matched holder items result }
 {
     let mut matching = [0u64; Auction::MAX_BIDDERS];
-    let mut k: usize = 0;
-    while k < items {
-        let held = holder[k];
+    for (k, &held) in holder[..items].iter().enumerate() {
         if held != 0 {
-            matching[held as usize - 1] = k as u64 + 1;
+            matching[usize::from(held) - 1] = k as u64 + 1;
         }
-        k += 1;
     }
     matching
 }
 
-// The prices as plain numbers.
-fn prices_of(price: [Scaled; Auction::MAX_ITEMS]) -> [u64; Auction::MAX_BIDDERS]
-    ensures { (k : ℕ) → k < max_items → cells result k ≡ scaled_at price k }
+// Prices or gains as plain numbers, and 0 past them.
+// The solver's `wide` does so with numbers of 32 bits, whose bound it promises: one for both says no less.
+fn numbers_of(units: &[Scaled]) -> [u64; Auction::MAX_BIDDERS]
+    requires { length units.now ≤ max_bidders }
+    ensures { (k : ℕ) → k < length units.now → cells result k ≡ scaled_at units.now k }
 {
-    let mut prices = [0u64; Auction::MAX_BIDDERS];
-    let mut k: usize = 0;
-    while k < Auction::MAX_ITEMS {
-        prices[k] = price[k].0;
-        k += 1;
+    let mut numbers = [0u64; Auction::MAX_BIDDERS];
+    for (k, unit) in units.iter().enumerate() {
+        numbers[k] = unit.0;
     }
-    prices
-}
-
-// The gains as plain numbers.
-fn gains_of(gain: [Scaled; Auction::MAX_BIDDERS]) -> [u64; Auction::MAX_BIDDERS]
-    ensures { (i : ℕ) → i < max_bidders → cells result i ≡ scaled_at gain i }
-{
-    let mut gains = [0u64; Auction::MAX_BIDDERS];
-    let mut i: usize = 0;
-    while i < Auction::MAX_BIDDERS {
-        gains[i] = gain[i].0;
-        i += 1;
-    }
-    gains
+    numbers
 }
 
 // A state as plain numbers.
 pub fn columns_of(state: State, items: usize) -> Columns
-    requires { (items ≤ max_items) × ((k : ℕ) → k < items → cells state.holder k ≤ max_bidders) }
+    requires items { items ≤ max_items }
+    requires holders { (k : ℕ) → k < items → cells state.holder k ≤ max_bidders }
     ensures { ColumnsOf state items result }
 {
-    let holder = state.holder;
-    let price = state.price;
-    let gain = state.gain;
     Columns {
-        plan: matching_of(holder, items),
-        prices: prices_of(price),
-        gains: gains_of(gain),
+        plan: matching_of(state.holder, items),
+        prices: numbers_of(&state.price),
+        gains: numbers_of(&state.gain),
     }
 }
 
 // The first n numbers, into a lent list.
 fn write(numbers: &[u64; Auction::MAX_BIDDERS], n: usize, out: &mut [u64])
-    requires { (n ≤ max_bidders) × (n ≤ length out.old) }
+    requires numbers { n ≤ max_bidders }
+    requires out { n ≤ length out.old }
     ensures { out.new ≡ written n (cells numbers.now) out.old }
 {
-    let mut i: usize = 0;
-    while i < n {
-        out[i] = numbers[i];
-        i += 1;
-    }
+    out[..n].copy_from_slice(&numbers[..n]);
 }
 
-// The three lists, written.
+// The three lists, written. They come one by one, as callers of C lend them.
 pub fn write_columns(
     columns: Columns,
     bidders: usize,
@@ -109,7 +85,11 @@ pub fn write_columns(
     prices: &mut [u64],
     gains: &mut [u64],
 )
-    requires { (bidders ≤ max_bidders) × (items ≤ max_bidders) × (bidders ≤ length plan.old) × (items ≤ length prices.old) × (bidders ≤ length gains.old) }
+    requires bidders { bidders ≤ max_bidders }
+    requires items { items ≤ max_bidders }
+    requires plan { bidders ≤ length plan.old }
+    requires prices { items ≤ length prices.old }
+    requires gains { bidders ≤ length gains.old }
     ensures { lists plan.new prices.new gains.new ≡ written_lists bidders items columns (lists plan.old prices.old gains.old) }
 {
     write(&columns.plan, bidders, plan);
@@ -117,16 +97,11 @@ pub fn write_columns(
     write(&columns.gains, bidders, gains);
 }
 
-// The sum of the first n numbers.
+// The sum of the first n numbers. A list and a number: docs name it so.
 pub fn sum(numbers: &[u64], n: usize) -> u64
-    requires { (n ≤ length numbers.now) × (sum_to n (cells numbers.now) < 2 ^ 64) }
+    requires part { n ≤ length numbers.now }
+    requires small { sum_to n (cells numbers.now) < 2 ^ 64 }
     ensures { result ≡ sum_to n (cells numbers.now) }
 {
-    let mut total: u64 = 0;
-    let mut i: usize = 0;
-    while i < n {
-        total = total + numbers[i];
-        i += 1;
-    }
-    total
+    numbers[..n].iter().sum()
 }

@@ -6,6 +6,7 @@ use crate::record::{Auction, Market, State};
 use crate::units::{Scaled, Slack};
 
 // So many items, nothing arrived.
+#[tactic(auto, unfolding(crate::specs::Opening::opened))]
 pub fn empty(items: u64, p: u64, q: u64) -> Auction
     ensures { result ≡ opened items p q }
 {

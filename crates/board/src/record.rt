@@ -6,7 +6,7 @@ use crate::units::{Pence, Scaled, Slack};
 
 // An edge as a caller hands it (document 01: an entry): an item's number and a weight.
 #[repr(C)]
-#[derive(Clone, Copy)]
+#[derive(Clone, Copy, Default)]
 pub struct Edge {
     pub item: u64,
     pub weight: Pence,
@@ -34,7 +34,7 @@ pub struct State {
     pub gain: [Scaled; Auction::MAX_BIDDERS],
 }
 
-// The board.
+// The board. C shares it and its parts: numbers and bytes, 0 for nobody and for nothing, and arrays side by side.
 #[repr(C)]
 #[derive(Clone, Copy)]
 pub struct Auction {
@@ -62,19 +62,19 @@ impl Auction {
     pub const MAX_TEXT: usize = 65536;
 }
 
-// Who holds an item, by cell.
+// Who holds an item, by cell. No `Option`: document 01 asks for `let Held(batch) = holder else` where a chain of bids ends.
 #[derive(Clone, Copy)]
 pub enum Holder {
     Held(usize),
     Free,
 }
 
-// What a holder's cell says.
+// What a holder's cell says: by a name of its own, as docs have it.
 pub fn holder_of(cell: u8) -> Holder
     ensures { result ≡ holder_of cell }
 {
-    if cell == 0 {
-        return Holder::Free;
+    match cell {
+        0 => Holder::Free,
+        number => Holder::Held(usize::from(number) - 1),
     }
-    Holder::Held(cell as usize - 1)
 }

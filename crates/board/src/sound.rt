@@ -1,4 +1,5 @@
-// The test that a board is sound. It takes the weights lent, and reads each edge once; those of placed bidders once more.
+// The test that a board is sound. Market, weights and state go one by one, as they lie in the record of `board` and in that of `supply`. It takes the
+// weights lent, and reads each edge once; those of placed bidders once more.
 ghost use Rattle.std.specs.Prelude.{◌≡◌, true, not, cond, ◌&&◌, ◌+◌, ◌-◌, ◌*◌, ◌≤◌, ◌<◌, length, eqb};
 ghost use Rattle.duality.specs.Decide.{Decides};
 ghost use Rattle.board.specs.Limits.{max_items, max_bidders, max_weight, max_q, word_limit};
@@ -13,86 +14,62 @@ use crate::units::{Pence, Scaled, Slack, weight_in};
 // The most that an edge within limits asks of gain and price together.
 const MAX_NEED: u64 = Auction::MAX_Q * Auction::MAX_WEIGHT;
 
-// Which item each bidder holds, by the bidder's number: the item's number, 0 for none. Cell 0 is nobody's.
-#[derive(Clone, Copy)]
-struct Placing {
-    // Each item's cell names nobody, or a bidder that has arrived and holds no other item.
-    apart: bool,
-    item: [u8; Auction::MAX_BIDDERS + 1],
-}
-
 // Counts and slack.
+#[tactic(auto, unfolding(crate::specs::SoundTest::limits_test))]
 fn within_limits(items: u64, arrived: u64, slack: Slack) -> bool
     ensures { result ≡ limits_test items arrived slack.p slack.q }
 {
-    if !is_within(Auction::MAX_ITEMS as u64, items) {
-        return false;
-    }
-    if arrived > Auction::MAX_BIDDERS as u64 {
-        return false;
-    }
-    is_slack(1, slack.p, slack.q)
-}
-
-// The number in a holder's cell: a bidder's, 0 for nobody.
-fn number_in(cell: u8) -> usize
-    ensures { result ≡ cell }
-{
-    cell as usize
+    is_within(Auction::MAX_ITEMS as u64, items)
+        && arrived <= Auction::MAX_BIDDERS as u64
+        && is_slack(1, slack.p, slack.q)
 }
 
 // Whether a holder's cell names a bidder that has an item already.
 fn taken(cell: usize, item: u8) -> bool
     ensures { result ≡ (not (eqb cell 0) && not (eqb item 0)) }
 {
-    if cell == 0 {
-        return false;
-    }
-    item != 0
+    cell != 0 && item != 0
 }
 
-// Who holds what, from the items' cells.
-fn placing_of(holder: &[u8; Auction::MAX_ITEMS], items: usize, arrived: usize) -> Placing
-    requires { (items ≤ max_items) × (arrived ≤ max_bidders) }
+// Which item each bidder holds, by the bidder's number: the item's number, 0 for none, as `Placed` of specs/SoundPass
+// has it. Cell 0 is nobody's. None where an item's cell names a bidder that
+// has not arrived, or one that holds another item.
+fn placing_of(
+    holder: &[u8; Auction::MAX_ITEMS],
+    items: usize,
+    arrived: usize,
+) -> Option<[u8; Auction::MAX_BIDDERS + 1]>
+    requires items { items ≤ max_items }
+    requires arrived { arrived ≤ max_bidders }
     ensures { PlacingOf holder.now items arrived result }
 {
     let mut item = [0; Auction::MAX_BIDDERS + 1];
-    let mut k: usize = 0;
-    while k < items {
-        let cell = number_in(holder[k]);
+    for (k, &named) in holder[..items].iter().enumerate() {
+        let cell = usize::from(named);
         if cell > arrived {
-            return Placing { apart: false, item };
+            return None;
         }
         if taken(cell, item[cell]) {
-            return Placing { apart: false, item };
+            return None;
         }
-        k += 1;
-        item[cell] = k as u8;
+        item[cell] = k as u8 + 1;
     }
-    Placing { apart: true, item }
+    Some(item)
 }
 
 // How high the byte may be that tells whether an item is withdrawn: 0 past the count.
 fn flag_limit(used: bool) -> u8
     ensures { result ≡ flag_limit used }
 {
-    if used {
-        return 1;
-    }
-    0
+    u8::from(used)
 }
 
 // An item that nobody holds has price 0; one past the count is also not held and not withdrawn.
+#[tactic(auto, unfolding(crate::specs::SoundTest::item_test))]
 fn item_holds(used: bool, price: Scaled, holder: u8, flag: u8) -> bool
     ensures { result ≡ item_test used price.0 holder flag }
 {
-    if flag > flag_limit(used) {
-        return false;
-    }
-    if holder != 0 {
-        return used;
-    }
-    price.0 == 0
+    (holder != 0 || price.0 == 0) && (used || holder == 0) && flag <= flag_limit(used)
 }
 
 fn items_hold<'a>(
@@ -103,12 +80,10 @@ fn items_hold<'a>(
 ) -> bool
     ensures { result ≡ items_test price holder.now withdrawn.now items }
 {
-    let mut k: usize = 0;
-    while k < Auction::MAX_ITEMS {
+    for k in 0..Auction::MAX_ITEMS {
         if !item_holds(k < items, price[k], holder[k], withdrawn[k]) {
             return false;
         }
-        k += 1;
     }
     true
 }
@@ -117,10 +92,7 @@ fn items_hold<'a>(
 fn limit_at(k: usize, items: usize) -> u64
     ensures { result ≡ limit_at items k }
 {
-    if k < items {
-        return Auction::MAX_WEIGHT;
-    }
-    0
+    if k < items { Auction::MAX_WEIGHT } else { 0 }
 }
 
 // What a price lacks of MAX_NEED. At a withdrawn item nothing need be covered.
@@ -128,12 +100,10 @@ fn lack_of(price: Scaled, withdrawn: bool) -> u64
     ensures { result ≡ lack_of price.0 withdrawn }
 {
     if withdrawn {
-        return 0;
+        0
+    } else {
+        MAX_NEED.saturating_sub(price.0)
     }
-    if price.0 >= MAX_NEED {
-        return 0;
-    }
-    MAX_NEED - price.0
 }
 
 // How heavy an edge may be at each item.
@@ -141,10 +111,8 @@ fn limits_of(items: usize) -> [u64; Auction::MAX_ITEMS]
     ensures { LimitsOf items result }
 {
     let mut limit = [0; Auction::MAX_ITEMS];
-    let mut k: usize = 0;
-    while k < Auction::MAX_ITEMS {
+    for k in 0..Auction::MAX_ITEMS {
         limit[k] = limit_at(k, items);
-        k += 1;
     }
     limit
 }
@@ -157,10 +125,8 @@ fn lacks_of(
     ensures { LacksOf price withdrawn.now result }
 {
     let mut lack = [0; Auction::MAX_ITEMS];
-    let mut k: usize = 0;
-    while k < Auction::MAX_ITEMS {
+    for k in 0..Auction::MAX_ITEMS {
         lack[k] = lack_of(price[k], withdrawn[k] != 0);
-        k += 1;
     }
     lack
 }
@@ -169,24 +135,23 @@ fn lacks_of(
 fn room_of(gain: Scaled) -> u64
     ensures { result ≡ room_of gain.0 }
 {
-    if gain.0 >= MAX_NEED {
-        return MAX_NEED + MAX_NEED;
-    }
-    gain.0 + MAX_NEED
+    gain.0.min(MAX_NEED) + MAX_NEED
 }
 
 // A cell of a row: an edge within its limit and covered, without adding a gain to a price.
+#[tactic(auto, unfolding(crate::specs::SoundPass::need_test))]
 fn cell_holds(weight: Pence, limit: u64, lack: u64, room: u64, slack: Slack) -> bool
-    requires { (weight.0 < word_limit) × (limit ≤ max_weight) × (lack ≤ max_need) × (slack.p < slack.q) × (slack.q ≤ max_q) }
+    requires weight { weight.0 < word_limit }
+    requires limit { limit ≤ max_weight }
+    requires lack { lack ≤ max_need }
+    requires below { slack.p < slack.q }
+    requires q { slack.q ≤ max_q }
     ensures { result ≡ need_test (slack.q - slack.p) limit lack room weight.0 }
 {
-    if weight.0 > limit {
-        return false;
-    }
-    slack.least(weight).0 + lack <= room
+    weight.0 <= limit && slack.least(weight).0 + lack <= room
 }
 
-// The row of edges that begins at a cell.
+// The row of edges that begins at a cell. By index: a closure cannot show `cell_holds` the bounds of the limits and lacks.
 fn row_holds<'a>(
     weights: &'a [u32; Auction::MAX_CELLS],
     from: usize,
@@ -195,29 +160,29 @@ fn row_holds<'a>(
     room: u64,
     slack: Slack,
 ) -> bool
-    requires { (from + max_items ≤ max_bidders * max_items) × (slack.p < slack.q) × (slack.q ≤ max_q) × Bounded limit.now lack.now }
+    requires row { from + max_items ≤ max_bidders * max_items }
+    requires bounded { Bounded limit.now lack.now }
+    requires below { slack.p < slack.q }
+    requires q { slack.q ≤ max_q }
     ensures { result ≡ needs_test (slack.q - slack.p) weights.now from limit.now lack.now room }
 {
-    let mut k: usize = 0;
-    while k < Auction::MAX_ITEMS {
+    for k in 0..Auction::MAX_ITEMS {
         if !cell_holds(weight_in(weights[from + k]), limit[k], lack[k], room, slack) {
             return false;
         }
-        k += 1;
     }
     true
 }
 
-// No edge from a cell on.
+// No edge from a cell on. Cell by cell: by an iterator's `all` the test of a board takes a sixth more instructions, over the 3 in 100 of
+// docs/BENCHMARK.md.
 fn no_edges(weights: &[u32; Auction::MAX_CELLS], from: usize) -> bool
     ensures { result ≡ empty_test weights.now from }
 {
-    let mut k = from;
-    while k < Auction::MAX_CELLS {
+    for k in from..Auction::MAX_CELLS {
         if weights[k] != 0 {
             return false;
         }
-        k += 1;
     }
     true
 }
@@ -231,14 +196,16 @@ fn rows_hold<'a>(
     arrived: usize,
     slack: Slack,
 ) -> bool
-    requires { (arrived ≤ max_bidders) × (slack.p < slack.q) × (slack.q ≤ max_q) × Bounded limit.now lack.now }
+    requires arrived { arrived ≤ max_bidders }
+    requires bounded { Bounded limit.now lack.now }
+    requires below { slack.p < slack.q }
+    requires q { slack.q ≤ max_q }
     ensures { result ≡ rows_test (slack.q - slack.p) weights.now limit.now lack.now gain arrived }
 {
     if !no_edges(weights, arrived * Auction::MAX_ITEMS) {
         return false;
     }
-    let mut i: usize = 0;
-    while i < arrived {
+    for i in 0..arrived {
         if !row_holds(
             weights,
             i * Auction::MAX_ITEMS,
@@ -249,19 +216,8 @@ fn rows_hold<'a>(
         ) {
             return false;
         }
-        i += 1;
     }
     true
-}
-
-// An item's cell, by its number; 0 for none.
-fn item_cell(item: u8) -> usize
-    ensures { result ≡ item - 1 }
-{
-    if item == 0 {
-        return 0;
-    }
-    item as usize - 1
 }
 
 // A bidder's place: at no item with gain 0, or at an item by a live edge, gain and price together q + p times its weight.
@@ -273,23 +229,19 @@ fn place_holds(
     gain: Scaled,
     slack: Slack,
 ) -> bool
-    requires { (weight.0 < word_limit) × (slack.p < slack.q) × (slack.q ≤ max_q) }
+    requires weight { weight.0 < word_limit }
+    requires below { slack.p < slack.q }
+    requires q { slack.q ≤ max_q }
     ensures { result ≡ cond (eqb item 0) (eqb gain.0 0) (pair_test (slack.q + slack.p) weight.0 price.0 withdrawn gain.0) }
 {
     if item == 0 {
         return gain.0 == 0;
     }
-    if withdrawn {
-        return false;
-    }
-    if weight.0 == 0 {
+    if withdrawn || weight.0 == 0 {
         return false;
     }
     let whole = slack.whole(weight).0;
-    if price.0 > whole {
-        return false;
-    }
-    gain.0 == whole - price.0
+    price.0 <= whole && gain.0 == whole - price.0
 }
 
 // Every edge is within limits and covered, and no bidder that has not arrived has one.
@@ -297,12 +249,16 @@ fn edges_hold(market: Market, weights: &[u32; Auction::MAX_CELLS], state: State)
     requires { limits_test market.items market.arrived market.slack.p market.slack.q ≡ true }
     ensures { Decides result (RowsHold (auction market weights.now state)) }
 {
-    let price = state.price;
-    let gain = state.gain;
-    let slack = market.slack;
     let limit = limits_of(market.items as usize);
-    let lack = lacks_of(price, &market.withdrawn);
-    rows_hold(weights, &limit, &lack, gain, market.arrived as usize, slack)
+    let lack = lacks_of(state.price, &market.withdrawn);
+    rows_hold(
+        weights,
+        &limit,
+        &lack,
+        state.gain,
+        market.arrived as usize,
+        market.slack,
+    )
 }
 
 // Every bidder's place holds; `item` has each bidder's cell of the matching.
@@ -312,14 +268,14 @@ fn places_hold(
     weights: &[u32; Auction::MAX_CELLS],
     state: State,
 ) -> bool
-    requires { (limits_test market.items market.arrived market.slack.p market.slack.q ≡ true) × Placed item (auction market weights.now state) }
+    requires limits { limits_test market.items market.arrived market.slack.p market.slack.q ≡ true }
+    requires placed { Placed item (auction market weights.now state) }
     ensures { Decides result (PlacesHold (auction market weights.now state)) }
 {
     let slack = market.slack;
-    let mut i: usize = 0;
-    while i < Auction::MAX_BIDDERS {
+    for i in 0..Auction::MAX_BIDDERS {
         let cell = item[i + 1];
-        let k = item_cell(cell);
+        let k = usize::from(cell).saturating_sub(1);
         let weight = weight_in(weights[i * Auction::MAX_ITEMS + k]);
         if !place_holds(
             cell,
@@ -331,41 +287,33 @@ fn places_hold(
         ) {
             return false;
         }
-        i += 1;
     }
     true
 }
 
 // Whether a board of these parts is sound, whatever numbers they hold.
 pub fn is_sound_in(market: Market, weights: &[u32; Auction::MAX_CELLS], state: State) -> bool
-    requires { length weights.now ≡ max_bidders * max_items }
     ensures { result ≡ sound_test (auction market weights.now state) }
 {
-    let slack = market.slack;
-    if !within_limits(market.items, market.arrived, slack) {
+    if !within_limits(market.items, market.arrived, market.slack) {
         return false;
     }
     let items = market.items as usize;
-    let placing = placing_of(&state.holder, items, market.arrived as usize);
-    if !placing.apart {
+    let Some(item) = placing_of(&state.holder, items, market.arrived as usize) else {
         return false;
-    }
-    let price = state.price;
-    if !items_hold(price, &state.holder, &market.withdrawn, items) {
+    };
+    if !items_hold(state.price, &state.holder, &market.withdrawn, items) {
         return false;
     }
     if !edges_hold(market, weights, state) {
         return false;
     }
-    let item = placing.item;
     places_hold(item, market, weights, state)
 }
 
-// Whether a board is sound.
+// Whether a board is sound. `is_sound_in` is the same of parts that lie in another record, as in that of `supply`.
 pub fn is_sound(auction: Auction) -> bool
     ensures { result ≡ sound_test auction }
 {
-    let market = auction.market;
-    let state = auction.state;
-    is_sound_in(market, &auction.weights, state)
+    is_sound_in(auction.market, &auction.weights, auction.state)
 }

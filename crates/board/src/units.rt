@@ -3,9 +3,9 @@ ghost use Rattle.std.specs.Prelude.{◌≡◌, ◌+◌, ◌-◌, ◌*◌, ◌/�
 ghost use Rattle.duality.specs.Steps.{utility};
 ghost use Rattle.board.specs.Limits.{max_q, word_limit};
 
-// Whole pence.
+// Whole pence. Numbers in two units are compared by what they count, as the contracts do: an order of the types would say no less.
 #[repr(C)]
-#[derive(Clone, Copy)]
+#[derive(Clone, Copy, Default)]
 pub struct Pence(pub u64);
 
 // q-ths of a penny: prices, gains and utilities.
@@ -13,7 +13,7 @@ pub struct Pence(pub u64);
 #[derive(Clone, Copy)]
 pub struct Scaled(pub u64);
 
-// The slack p/q.
+// The slack p/q. C shares this record, which holds any two numbers: that p is below q, and q at most 1,000, is asked where a slack is used.
 #[repr(C)]
 #[derive(Clone, Copy)]
 pub struct Slack {
@@ -24,7 +24,8 @@ pub struct Slack {
 impl Slack {
     // A factor of q-ths for each penny, times a weight. Only the functions below choose the factor.
     fn times(factor: u64, weight: Pence) -> Scaled
-        requires { (factor ≤ 2 * max_q) × (weight.0 < word_limit) }
+        requires factor { factor ≤ 2 * max_q }
+        requires weight { weight.0 < word_limit }
         ensures { result.0 ≡ factor * weight.0 }
     {
         Scaled(factor * weight.0)
@@ -32,7 +33,9 @@ impl Slack {
 
     // p times a weight: what a bid raises a price by.
     pub fn step(self, weight: Pence) -> Scaled
-        requires { (self.p < self.q) × (self.q ≤ max_q) × (weight.0 < word_limit) }
+        requires below { self.p < self.q }
+        requires q { self.q ≤ max_q }
+        requires weight { weight.0 < word_limit }
         ensures { result.0 ≡ self.p * weight.0 }
     {
         Slack::times(self.p, weight)
@@ -40,7 +43,9 @@ impl Slack {
 
     // q - p times a weight: what gain and price must cover.
     pub fn least(self, weight: Pence) -> Scaled
-        requires { (self.p < self.q) × (self.q ≤ max_q) × (weight.0 < word_limit) }
+        requires below { self.p < self.q }
+        requires q { self.q ≤ max_q }
+        requires weight { weight.0 < word_limit }
         ensures { result.0 ≡ (self.q - self.p) * weight.0 }
     {
         Slack::times(self.q - self.p, weight)
@@ -48,7 +53,9 @@ impl Slack {
 
     // q + p times a weight: what a placed bidder's gain and its item's price add up to.
     pub fn whole(self, weight: Pence) -> Scaled
-        requires { (self.p < self.q) × (self.q ≤ max_q) × (weight.0 < word_limit) }
+        requires below { self.p < self.q }
+        requires q { self.q ≤ max_q }
+        requires weight { weight.0 < word_limit }
         ensures { result.0 ≡ (self.q + self.p) * weight.0 }
     {
         Slack::times(self.q + self.p, weight)
@@ -56,7 +63,8 @@ impl Slack {
 
     // The weight of which so many q-ths are q + p times: the inverse of `whole`.
     pub fn weight_of(self, whole: Scaled) -> Pence
-        requires { (self.p < self.q) × (self.q ≤ max_q) }
+        requires below { self.p < self.q }
+        requires q { self.q ≤ max_q }
         ensures { result.0 ≡ whole.0 / (self.q + self.p) }
     {
         Pence(whole.0 / (self.q + self.p))
@@ -80,7 +88,8 @@ impl Slack {
 
     // Whether q times a weight is above a price.
     pub fn exceeds(self, weight: Pence, price: Scaled) -> bool
-        requires { (self.q ≤ max_q) × (weight.0 < word_limit) }
+        requires q { self.q ≤ max_q }
+        requires weight { weight.0 < word_limit }
         ensures { result ≡ ltb price.0 (self.q * weight.0) }
     {
         price.0 < Slack::times(self.q, weight).0
@@ -88,16 +97,19 @@ impl Slack {
 
     // q times a weight less a price that is below it: the utility of an edge.
     pub fn utility(self, weight: Pence, price: Scaled) -> Scaled
-        requires { (self.q ≤ max_q) × (weight.0 < word_limit) × (price.0 < self.q * weight.0) }
+        requires q { self.q ≤ max_q }
+        requires weight { weight.0 < word_limit }
+        requires exceeds { price.0 < self.q * weight.0 }
         ensures { result.0 ≡ utility self.q weight.0 price.0 }
     {
         Scaled(Slack::times(self.q, weight).0 - price.0)
     }
 }
 
-// The weight in a row's cell.
+// The weight in a row's cell. No `From<u32>`: its callers need the bound that it promises.
 pub fn weight_in(cell: u32) -> Pence
-    ensures { (result.0 ≡ cell) × (result.0 < word_limit) }
+    ensures weight { result.0 ≡ cell }
+    ensures small { result.0 < word_limit }
 {
-    Pence(cell as u64)
+    Pence(u64::from(cell))
 }

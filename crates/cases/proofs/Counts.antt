@@ -19,7 +19,7 @@ use Rattle.auction.specs.Items.{item_checks}
 use Rattle.auction.specs.Arrive.{arrive_rest, arrival_of, arrive_by}
 use Rattle.auction.specs.Withdraw.{withdraw_rest, withdrawal_of, withdraw_by}
 use Rattle.counting.specs.Call.{large_test, count_by, counted_told}
-use Rattle.counting.proofs.Outcomes.{count-spoilt, count-large}
+use Rattle.cases.proofs.Outcomes.{count-spoilt, count-large}
 use Rattle.cases.specs.FullBoard.{full}
 use Rattle.cases.specs.Play.{after_count, after_arrive, after_withdraw, played, withdrew}
 use Rattle.cases.specs.Counts.{count_rows, WorkedCounts}

@@ -1,3 +1,4 @@
+pub mod Outcomes
 pub mod Skips
 pub mod Table
 pub mod Ties

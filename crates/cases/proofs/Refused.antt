@@ -1,4 +1,5 @@
 -- The worked refusals and answers hold: the calls by computation, the texts by demand 1.
+use Rattle.std.specs.Prelude.{Err}
 use mathlib.Core.Path.{◌≡◌, refl, sym, ap, ◌∙◌}
 use mathlib.Core.List.{List, []}
 use Prim.Native.Nat.{ℕ}
@@ -8,11 +9,9 @@ use Rattle.text.specs.Print.{decimal}
 use Rattle.refusals.specs.declared.Refusal.{Refusal}
 use Rattle.refusals.specs.Demand1.{first_of}
 use Rattle.supply.specs.Opening.{opened}
-use Rattle.auction.specs.declared.arrive.Arrived.{Arrived}
-use Rattle.auction.specs.declared.withdraw.Withdrawn.{Withdrawn}
 use Rattle.auction.proofs.CallVerdicts.{arrive-spoilt, arrive-full, withdraw-spoilt, read-out-by}
 use Rattle.certificate.specs.Check.{checked_told}
-use Rattle.certificate.proofs.Outcomes.{check-spoilt}
+use Rattle.cases.proofs.Outcomes.{check-spoilt}
 use Rattle.replay.specs.Replay.{opens}
 use Rattle.replay.specs.Says.{Says, opening}
 use Rattle.replay.specs.TextDemand1.{TextRefused, LineRefused}
@@ -26,9 +25,9 @@ full-answers : FullAnswers
 unfolding full first_of
 full-answers =
     record {
-      at_most = λ edges. record { answer = Arrived.Refused Refusal.Full; outcome = arrive-full (full 3) edges full-sound (omega arith); tells = refl };
-      arrives = λ edges. record { answer = Arrived.Refused Refusal.Spoilt; outcome = arrive-spoilt (full 4) edges full-unsound; tells = refl };
-      withdraws = λ items. record { answer = Withdrawn.Refused Refusal.Spoilt; outcome = withdraw-spoilt (full 4) items full-unsound; tells = refl };
+      at_most = λ edges. record { answer = Err Refusal.Full; outcome = arrive-full (full 3) edges full-sound (omega arith); tells = refl };
+      arrives = λ edges. record { answer = Err Refusal.Spoilt; outcome = arrive-spoilt (full 4) edges full-unsound; tells = refl };
+      withdraws = λ items. record { answer = Err Refusal.Spoilt; outcome = withdraw-spoilt (full 4) items full-unsound; tells = refl };
       reads = λ l. let e = read-out-by (full 4) l {r = Refusal.Spoilt} (rw full-unsound) in record { lists = rw e; tells = rw e };
       checks = λ l p q. sym (ap checked_told (check-spoilt (full 4) l p q full-unsound));
     }

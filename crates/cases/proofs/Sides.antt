@@ -28,7 +28,8 @@ use Rattle.auction.specs.Items.{item_checks}
 use Rattle.auction.specs.Arrive.{arrive_rest, arrival_of, arrive_by}
 use Rattle.auction.specs.Withdraw.{withdraw_rest, withdrawal_of, withdraw_by}
 use Rattle.comparison.specs.Compare.{plans_checks, smaller_first, cells_order, compare_by, compare_of, compared_told}
-use Rattle.comparison.proofs.Outcomes.{plans_on, compare-spoilt, compare-plans}
+use Rattle.comparison.proofs.Outcomes.{plans_on}
+use Rattle.cases.proofs.Outcomes.{compare-spoilt, compare-plans}
 use Rattle.cases.specs.FullBoard.{count, full}
 use Rattle.cases.specs.Play.{after_compare, after_arrive, after_withdraw, played, withdrew}
 use Rattle.cases.specs.Sides.{side_rows, heavy, every_item, no_item, told_as, Sides}

@@ -1,33 +1,28 @@
 -- A case is played on sound boards, so the test of soundness need not be computed again at each call.
+use Rattle.std.specs.Prelude.{Err, Ok, Result}
 use mathlib.Core.Path.{◌≡◌, refl, sym, ap, ◌∙◌}
 use mathlib.Core.Bool.{not}
 use mathlib.Core.List.{List, [], ◌∷◌}
 use lib.ListN.{length}
 use Prim.Native.Nat.{ℕ}
 use native.Mathlib.Omega.{arith}
-use Rattle.refusals.specs.declared.Verdict.{Verdict}
 use Rattle.supply.specs.declared.record.Board.{Board}
 use Rattle.board.specs.declared.record.Edge.{Edge}
-use Rattle.auction.specs.declared.arrive.Arrived.{Arrived}
-use Rattle.auction.specs.declared.arrive.Arrival.{Arrival}
-use Rattle.auction.specs.declared.withdraw.Withdrawn.{Withdrawn}
-use Rattle.auction.specs.declared.withdraw.Withdrawal.{Withdrawal}
-use Rattle.supply.specs.declared.opening.Opened.{Opened}
+use Rattle.auction.specs.Arrive.{Arrival, arrive_rest, arrive_by, arrive_of}
+use Rattle.auction.specs.Withdraw.{Withdrawal, withdraw_rest, withdraw_by, withdraw_of}
 use Rattle.supply.specs.Sound.{Sound}
 use Rattle.bidding.specs.Rule.{Outcome, done, spent}
 use Rattle.refusals.specs.Codes.{code_of}
 use Rattle.refusals.specs.declared.Refusal.{Refusal}
-use Rattle.refusals.specs.Demand1.{Check, check_for, first_of}
+use Rattle.refusals.specs.Demand1.{Check, check_for, first_of, Verdict}
 use Rattle.board.specs.Lent.{Lists, room_test}
 use Rattle.supply.specs.Opening.{open_of, open_checks, open_by}
-use Rattle.auction.specs.Arrive.{arrive_rest, arrive_by, arrive_of}
-use Rattle.auction.specs.Withdraw.{withdraw_rest, withdraw_by, withdraw_of}
 use Rattle.auction.specs.ReadOut.{ReadOutcome, read_out_by, read_out_of}
 use Rattle.certificate.specs.Check.{check_by, check_of, check_rest}
 use Rattle.comparison.specs.Compare.{compare_by}
-use Rattle.comparison.proofs.Outcomes.{plans_on, compare-plans}
+use Rattle.comparison.proofs.Outcomes.{plans_on}
 use Rattle.counting.specs.Call.{count_by}
-use Rattle.counting.proofs.Outcomes.{large_check, count-sound}
+use Rattle.cases.proofs.Outcomes.{large_check, compare-plans, count-sound}
 use Rattle.supply.proofs.SoundLaw.{sound-decides}
 use Rattle.auction.proofs.Demand2.{arrive-demand-2, withdraw-demand-2}
 use Rattle.supply.proofs.Openings.{opened-sound}
@@ -70,11 +65,11 @@ module _ (rest : List Call) (ih : (b : Board) (bids : List ℕ) → Sound b → 
   after-arrive b edges bids spent e = refl
   after-arrive b edges bids (done a) e = go a.answer refl
     where
-      go : (x : Arrived) → a.answer ≡ x → played (play_all rest) bids a.board x ≡ played (skip_all rest) bids a.board x
-      go (Arrived.Bids n) h =
-          let f : arrive_of b edges ≡ done (record { board = a.board; answer = Arrived.Bids n }) = rw (← h) e in
-          ih a.board (n ∷ bids) (arrive-demand-2 b a.board edges n (record { answer = Arrived.Bids n; outcome = f; tells = refl })).after
-      go (Arrived.Refused r) h = refl
+      go : (x : Result ℕ Refusal) → a.answer ≡ x → played (play_all rest) bids a.board x ≡ played (skip_all rest) bids a.board x
+      go (Ok n) h =
+          let f : arrive_of b edges ≡ done (record { board = a.board; answer = Ok n }) = rw (← h) e in
+          ih a.board (n ∷ bids) (arrive-demand-2 b a.board edges n (record { answer = Ok n; outcome = f; tells = refl })).after
+      go (Err r) h = refl
 
   after-withdraw : (b : Board) (items : List ℕ) (bids : List ℕ) (o : Outcome Withdrawal) → withdraw_of b items ≡ o →
       after_withdraw (play_all rest) bids o ≡ after_withdraw (skip_all rest) bids o
@@ -82,11 +77,11 @@ module _ (rest : List Call) (ih : (b : Board) (bids : List ℕ) → Sound b → 
   after-withdraw b items bids spent e = refl
   after-withdraw b items bids (done a) e = go a.answer refl
     where
-      go : (x : Withdrawn) → a.answer ≡ x → withdrew (play_all rest) bids a.board x ≡ withdrew (skip_all rest) bids a.board x
-      go (Withdrawn.Bids n) h =
-          let f : withdraw_of b items ≡ done (record { board = a.board; answer = Withdrawn.Bids n }) = rw (← h) e in
-          ih a.board (n ∷ bids) (withdraw-demand-2 b a.board items n (record { answer = Withdrawn.Bids n; outcome = f; tells = refl })).after
-      go (Withdrawn.Refused r) h = refl
+      go : (x : Result ℕ Refusal) → a.answer ≡ x → withdrew (play_all rest) bids a.board x ≡ withdrew (skip_all rest) bids a.board x
+      go (Ok n) h =
+          let f : withdraw_of b items ≡ done (record { board = a.board; answer = Ok n }) = rw (← h) e in
+          ih a.board (n ∷ bids) (withdraw-demand-2 b a.board items n (record { answer = Ok n; outcome = f; tells = refl })).after
+      go (Err r) h = refl
 
 all-skip : (calls : List Call) (b : Board) (bids : List ℕ) → Sound b → play_all calls b bids ≡ skip_all calls b bids
 unfolding play_all skip_all
@@ -100,26 +95,26 @@ all-skip (read_out l ∷ rest) b bids s = ap (λ (o : ReadOutcome). after_read_o
 all-skip (compare first second ∷ rest) b bids s = ap after_compare (sym (compare-plans b first second ((sound-decides b).complete s)))
 all-skip (count_slow ∷ rest) b bids s = ap after_count (sym (count-sound b ((sound-decides b).complete s)))
 
-unfoldable pub skip_opening : List Call → Board → Opened → Seen
-skip_opening calls b Opened.Ready = skip_all calls b []
-skip_opening calls b (Opened.Refused r) = refusal (code_of r)
+unfoldable pub skip_opening : List Call → Board → Verdict → Seen
+skip_opening calls b (Ok tt) = skip_all calls b []
+skip_opening calls b (Err r) = refusal (code_of r)
 
 unfoldable pub skip : Case → Seen
 skip c = skip_opening c.calls (open_of c.items c.p c.q c.counts).board (open_of c.items c.p c.q c.counts).answer
 
-pub ready-sound : (items p q : ℕ) (counts : List ℕ) → (open_of items p q counts).answer ≡ Opened.Ready → Sound (open_of items p q counts).board
+pub ready-sound : (items p q : ℕ) (counts : List ℕ) → (open_of items p q counts).answer ≡ Ok tt → Sound (open_of items p q counts).board
 unfolding open_of open_by
 ready-sound items p q counts h = go (first_of (open_checks items p q counts)) refl h
   where
-    go : (v : Verdict) → first_of (open_checks items p q counts) ≡ v → (open_by p q counts v).answer ≡ Opened.Ready → Sound (open_by p q counts v).board
-    go (Verdict.Refused r) e h = let z : ◌≡◌ {A = ℕ} 0 1 = cc in absurd (omega arith)
-    go Verdict.Served e h = opened-sound items p q counts e
+    go : (v : Verdict) → first_of (open_checks items p q counts) ≡ v → (open_by p q counts v).answer ≡ Ok tt → Sound (open_by p q counts v).board
+    go (Err r) e h = let z : ◌≡◌ {A = ℕ} 0 1 = cc in absurd (omega arith)
+    go (Ok tt) e h = opened-sound items p q counts e
 
 pub play-skips : (c : Case) → play c ≡ skip c
 unfolding play opening skip skip_opening
 play-skips c = go (open_of c.items c.p c.q c.counts).answer refl
   where
-    go : (a : Opened) → (open_of c.items c.p c.q c.counts).answer ≡ a →
+    go : (a : Verdict) → (open_of c.items c.p c.q c.counts).answer ≡ a →
         opening c.calls (open_of c.items c.p c.q c.counts).board a ≡ skip_opening c.calls (open_of c.items c.p c.q c.counts).board a
-    go Opened.Ready e = all-skip c.calls _ [] (ready-sound c.items c.p c.q c.counts e)
-    go (Opened.Refused r) e = refl
+    go (Ok tt) e = all-skip c.calls _ [] (ready-sound c.items c.p c.q c.counts e)
+    go (Err r) e = refl

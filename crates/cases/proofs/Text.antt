@@ -1,4 +1,6 @@
 -- The texts, by computation. The boards on the way are sound, so the test of soundness need not be computed.
+use Rattle.refusals.specs.declared.Refusal.{Refusal}
+use Rattle.std.specs.Prelude.{Err, Ok, Result}
 use mathlib.Core.Path.{◌≡◌, refl, ap, ap₂, ◌∙◌}
 use mathlib.Core.Bool.{cond}
 use mathlib.Core.List.{List, [], ◌∷◌, ◌++◌}
@@ -10,10 +12,8 @@ use Rattle.text.specs.Line.{fields_at, line_at}
 use Rattle.text.specs.Print.{decimal}
 use Rattle.supply.specs.declared.record.Board.{Board}
 use Rattle.board.specs.declared.record.Edge.{Edge}
-use Rattle.auction.specs.declared.arrive.Arrived.{Arrived}
-use Rattle.auction.specs.declared.arrive.Arrival.{Arrival}
-use Rattle.auction.specs.declared.withdraw.Withdrawn.{Withdrawn}
-use Rattle.auction.specs.declared.withdraw.Withdrawal.{Withdrawal}
+use Rattle.auction.specs.Arrive.{Arrival, arrival_of, arrive_rest, arrive_by, arrive_of}
+use Rattle.auction.specs.Withdraw.{Withdrawal, withdraw_rest, withdrawal_of, withdraw_by, withdraw_of}
 use Rattle.replay.specs.declared.Replayed.{Replayed}
 use Rattle.supply.specs.Sound.{Sound}
 use Rattle.board.specs.Live.{held_by}
@@ -30,11 +30,7 @@ use Rattle.supply.specs.Spread.{spread_row, numbers_from, places_named}
 use Rattle.board.specs.Lent.{written}
 use Rattle.bidding.specs.Moves.{entered, arrived_of, released}
 use Rattle.bidding.specs.Withdrawals.{displaced_if, vacated, vacated_to, named_in, roll_of, more_bids, next_chain, chains_from, withdrawn_of}
-use Rattle.auction.specs.Arrive.{arrival_of, arrive_rest, arrive_by, arrive_of}
-use Rattle.auction.specs.Withdraw.{withdraw_rest, withdrawal_of, withdraw_by, withdraw_of}
-use Rattle.replay.specs.Replay.{pairs_of, Command, opens, places, arrives, withdraws, malformed, command_of, finished}
-use Rattle.replay.specs.Replay.{after_arrived, after_arrival, after_withdrawn, after_withdrawal, carry_out, lines_from}
-use Rattle.replay.specs.Replay.{place_checks, after_places, place_line, place_lines, after_opened, first_line, replay_of}
+use Rattle.replay.specs.Replay.{pairs_of, Command, opens, places, arrives, withdraws, malformed, command_of, finished, after_arrived, after_arrival, after_withdrawn, after_withdrawal, carry_out, lines_from, place_checks, after_places, place_line, place_lines, after_opened, first_line, replay_of}
 use Rattle.supply.proofs.Openings.{opened-sound}
 use Rattle.auction.proofs.Demand2.{arrive-demand-2, withdraw-demand-2}
 use Rattle.history.specs.Output.{bidder_lines, item_lines, output_of}
@@ -69,22 +65,22 @@ module _ (next skip : Board → ℕ → Outcome Replayed) (ih : (b : Board) (bid
   arrivals n b bids edges spent e = refl
   arrivals n b bids edges (done a) e = go a.answer refl
     where
-      go : (x : Arrived) → a.answer ≡ x → after_arrived next n a.board bids x ≡ after_arrived skip n a.board bids x
-      go (Arrived.Bids k) h =
-          let f : arrive_of b edges ≡ done (record { board = a.board; answer = Arrived.Bids k }) = rw (← h) e in
-          ih a.board (bids + k) (arrive-demand-2 b a.board edges k (record { answer = Arrived.Bids k; outcome = f; tells = refl })).after
-      go (Arrived.Refused r) h = refl
+      go : (x : Result ℕ Refusal) → a.answer ≡ x → after_arrived next n a.board bids x ≡ after_arrived skip n a.board bids x
+      go (Ok k) h =
+          let f : arrive_of b edges ≡ done (record { board = a.board; answer = Ok k }) = rw (← h) e in
+          ih a.board (bids + k) (arrive-demand-2 b a.board edges k (record { answer = Ok k; outcome = f; tells = refl })).after
+      go (Err r) h = refl
 
   withdrawals : (n : ℕ) (b : Board) (bids : ℕ) (items : List ℕ) (o : Outcome Withdrawal) → withdraw_of b items ≡ o → after_withdrawal next n bids o ≡ after_withdrawal skip n bids o
   unfolding after_withdrawal after_withdrawn
   withdrawals n b bids items spent e = refl
   withdrawals n b bids items (done a) e = go a.answer refl
     where
-      go : (x : Withdrawn) → a.answer ≡ x → after_withdrawn next n a.board bids x ≡ after_withdrawn skip n a.board bids x
-      go (Withdrawn.Bids k) h =
-          let f : withdraw_of b items ≡ done (record { board = a.board; answer = Withdrawn.Bids k }) = rw (← h) e in
-          ih a.board (bids + k) (withdraw-demand-2 b a.board items k (record { answer = Withdrawn.Bids k; outcome = f; tells = refl })).after
-      go (Withdrawn.Refused r) h = refl
+      go : (x : Result ℕ Refusal) → a.answer ≡ x → after_withdrawn next n a.board bids x ≡ after_withdrawn skip n a.board bids x
+      go (Ok k) h =
+          let f : withdraw_of b items ≡ done (record { board = a.board; answer = Ok k }) = rw (← h) e in
+          ih a.board (bids + k) (withdraw-demand-2 b a.board items k (record { answer = Ok k; outcome = f; tells = refl })).after
+      go (Err r) h = refl
 
   line-skips : (n : ℕ) (b : Board) (bids : ℕ) → Sound b → (x : Command) → carry_out next n b bids x ≡ skip_out skip n b bids x
   unfolding carry_out skip_out

@@ -1,9 +1,8 @@
 -- The slow count (document 02, R-9), worked out in numbers.
-use Rattle.std.specs.Prelude.{◌≡◌, List, [], ◌∷◌, map}
+use Rattle.std.specs.Prelude.{Ok, Err, ◌≡◌, List, [], ◌∷◌, map}
 use Rattle.refusals.specs.declared.Refusal.{Refusal}
 use Rattle.refusals.specs.Told.{told}
 use Rattle.board.specs.Cells.{edge, pence}
-use Rattle.counting.specs.declared.Counted.{Counted}
 use Rattle.counting.specs.Call.{count_of, counted_told}
 use Rattle.cases.specs.FullBoard.{full}
 use Rattle.cases.specs.Play.{Call, arrive, withdraw, count_slow, on_places, on, counted, refused, play}
@@ -60,5 +59,5 @@ pub record WorkedCounts : Type 0 where
   pub spoilt : counted_told (count_of (full 4)) ≡ told 13 0 0
   pub large : counted_told (count_of (full 3)) ≡ told 17 0 0
   -- Answers: number, place and value
-  pub weight : counted_told (Counted.Weight (pence 7)) ≡ told 0 0 7
-  pub refusal : counted_told (Counted.Refused Refusal.Large) ≡ told 17 0 0
+  pub weight : counted_told (Ok (pence 7)) ≡ told 0 0 7
+  pub refusal : counted_told (Err Refusal.Large) ≡ told 17 0 0

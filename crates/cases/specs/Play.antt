@@ -1,15 +1,13 @@
 -- A history of calls, played over the meanings of the calls.
-use Rattle.std.specs.Prelude.{List, [], ◌∷◌, ℕ, zero, suc, ℤ, replicate}
+use Rattle.refusals.specs.Demand1.{Verdict}
+use Rattle.refusals.specs.declared.Refusal.{Refusal}
+use Rattle.std.specs.Prelude.{List, [], ◌∷◌, ℕ, zero, suc, ℤ, replicate, Err, Ok, Result}
 use Rattle.duality.specs.Cover.{total}
 use Rattle.places.specs.GreatestWeightWith.{greatest_with}
 use Rattle.supply.specs.declared.record.Board.{Board}
 use Rattle.board.specs.declared.record.Edge.{Edge}
-use Rattle.supply.specs.declared.opening.Opened.{Opened}
-use Rattle.auction.specs.declared.arrive.Arrived.{Arrived}
-use Rattle.auction.specs.declared.arrive.Arrival.{Arrival}
-use Rattle.auction.specs.declared.withdraw.Withdrawn.{Withdrawn}
-use Rattle.auction.specs.declared.withdraw.Withdrawal.{Withdrawal}
-use Rattle.auction.specs.declared.read_out.ReadOut.{ReadOut}
+use Rattle.auction.specs.Arrive.{Arrival, arrive_of}
+use Rattle.auction.specs.Withdraw.{Withdrawal, withdraw_of}
 use Rattle.board.specs.Cells as place
 use Rattle.supply.specs.Board.{auction_of, places_at}
 use Rattle.supply.specs.ByItem.{live, gain_at, price_at, matching_of, matching_weight}
@@ -17,15 +15,10 @@ use Rattle.bidding.specs.Rule.{Outcome, done, spent}
 use Rattle.refusals.specs.Codes.{Code, code_of}
 use Rattle.board.specs.Lent.{Lists}
 use Rattle.supply.specs.Opening.{open_of}
-use Rattle.auction.specs.Arrive.{arrive_of}
-use Rattle.auction.specs.Withdraw.{withdraw_of}
 use Rattle.auction.specs.ReadOut.{read_out_of}
-use Rattle.certificate.specs.declared.Checked.{Checked}
-use Rattle.certificate.specs.Check.{check_of}
-use Rattle.comparison.specs.declared.Compared.{Compared}
-use Rattle.comparison.specs.Compare.{compare_of, order_number}
-use Rattle.counting.specs.declared.Counted.{Counted}
-use Rattle.counting.specs.Call.{count_of}
+use Rattle.certificate.specs.Check.{Checked, check_of}
+use Rattle.comparison.specs.Compare.{Compared, compare_of, order_number}
+use Rattle.counting.specs.Call.{Counted, count_of}
 
 -- A call after opening
 pub data Call : Type 0 where
@@ -77,13 +70,13 @@ seen b bids =
     (matching_weight b) (total b.market.arrived b.market.items (place.price_at (auction_of b)) (gain_at b))
     (greatest_with b.market.arrived b.items.count (places_at b) (live b)) bids
 
-unfoldable pub played : (Board → List ℕ → Seen) → List ℕ → Board → Arrived → Seen
-played next bids b (Arrived.Bids n) = next b (n ∷ bids)
-played next bids b (Arrived.Refused r) = refusal (code_of r)
+unfoldable pub played : (Board → List ℕ → Seen) → List ℕ → Board → Result ℕ Refusal → Seen
+played next bids b (Ok n) = next b (n ∷ bids)
+played next bids b (Err r) = refusal (code_of r)
 
-unfoldable pub withdrew : (Board → List ℕ → Seen) → List ℕ → Board → Withdrawn → Seen
-withdrew next bids b (Withdrawn.Bids n) = next b (n ∷ bids)
-withdrew next bids b (Withdrawn.Refused r) = refusal (code_of r)
+unfoldable pub withdrew : (Board → List ℕ → Seen) → List ℕ → Board → Result ℕ Refusal → Seen
+withdrew next bids b (Ok n) = next b (n ∷ bids)
+withdrew next bids b (Err r) = refusal (code_of r)
 
 unfoldable pub after_arrive : (Board → List ℕ → Seen) → List ℕ → Outcome Arrival → Seen
 after_arrive next bids spent = unended
@@ -95,20 +88,20 @@ after_withdraw next bids (done a) = withdrew next bids a.board a.answer
 
 -- A check is the last call, and so are a read-out, a comparison and a count
 unfoldable pub after_check : Checked → Seen
-after_check (Checked.Totals weight sum) = totals weight.0 sum.0
-after_check (Checked.Refused r) = refusal (code_of r)
+after_check (Ok (weight, sum)) = totals weight.0 sum.0
+after_check (Err r) = refusal (code_of r)
 
-unfoldable pub after_read_out : Lists → ReadOut → Seen
-after_read_out l ReadOut.Written = wrote l
-after_read_out l (ReadOut.Refused r) = refusal (code_of r)
+unfoldable pub after_read_out : Lists → Verdict → Seen
+after_read_out l (Ok tt) = wrote l
+after_read_out l (Err r) = refusal (code_of r)
 
 unfoldable pub after_compare : Compared → Seen
-after_compare (Compared.Plans difference order) = sides difference (order_number order)
-after_compare (Compared.Refused r) = refusal (code_of r)
+after_compare (Ok (difference, order)) = sides difference (order_number order)
+after_compare (Err r) = refusal (code_of r)
 
 unfoldable pub after_count : Counted → Seen
-after_count (Counted.Weight weight) = counted weight.0
-after_count (Counted.Refused r) = refusal (code_of r)
+after_count (Ok weight) = counted weight.0
+after_count (Err r) = refusal (code_of r)
 
 -- The calls in turn; the bids of the last call first
 unfoldable pub play_all : List Call → Board → List ℕ → Seen
@@ -120,9 +113,9 @@ play_all (read_out l ∷ rest) b bids = after_read_out (read_out_of b l).lists (
 play_all (compare first second ∷ rest) b bids = after_compare (compare_of b first second)
 play_all (count_slow ∷ rest) b bids = after_count (count_of b)
 
-unfoldable pub opening : List Call → Board → Opened → Seen
-opening calls b Opened.Ready = play_all calls b []
-opening calls b (Opened.Refused r) = refusal (code_of r)
+unfoldable pub opening : List Call → Board → Verdict → Seen
+opening calls b (Ok tt) = play_all calls b []
+opening calls b (Err r) = refusal (code_of r)
 
 unfoldable pub play : Case → Seen
 play c = opening c.calls (open_of c.items c.p c.q c.counts).board (open_of c.items c.p c.q c.counts).answer

@@ -1,23 +1,17 @@
 -- Refusals and answers worked out in numbers: each row of document 01's table is met by a call or a text, and is seen with its number and place.
-use Rattle.std.specs.Prelude.{◌≡◌, List, [], ◌∷◌, map, ℕ, length, get_or}
+use Rattle.replay.specs.Replay.{halted}
+use Rattle.std.specs.Prelude.{◌≡◌, List, [], ◌∷◌, map, ℕ, length, get_or, Err, Ok}
 use Rattle.refusals.specs.declared.Refusal.{Refusal}
 use Rattle.refusals.specs.declared.Told.{Told}
 use Rattle.board.specs.declared.record.Edge.{Edge}
-use Rattle.supply.specs.declared.opening.Opened.{Opened}
 use Rattle.board.specs.Cells.{edge, pence, scaled}
 use Rattle.supply.specs.Opening.{opened_told}
 use Rattle.board.specs.Lent.{Lists, lists}
-use Rattle.auction.specs.declared.arrive.Arrived.{Arrived}
-use Rattle.auction.specs.declared.withdraw.Withdrawn.{Withdrawn}
-use Rattle.auction.specs.declared.read_out.ReadOut.{ReadOut}
 use Rattle.auction.specs.Arrive.{arrived_told, ArriveAnswers}
 use Rattle.auction.specs.Withdraw.{withdrawn_told, WithdrawAnswers}
 use Rattle.auction.specs.ReadOut.{read_out_told, ReadOutAnswers}
-use Rattle.certificate.specs.declared.Checked.{Checked}
 use Rattle.certificate.specs.Check.{check_of, checked_told}
-use Rattle.replay.specs.declared.Ending.{Ending}
 use Rattle.replay.specs.TextDemand1.{ending_told}
-use Rattle.history.specs.declared.planning.Planned.{Planned}
 use Rattle.history.specs.Demand1.{planned_told}
 use Rattle.history.specs.Plan.{sheet_of}
 use Rattle.cases.specs.FullBoard.{full}
@@ -103,18 +97,18 @@ pub record TextLimit : Type 0 where
 -- ---- Answers: number, place and value
 
 pub record Answers : Type 0 where
-  pub opened : opened_told Opened.Ready ≡ told 0 0 0
-  pub arrived : arrived_told (Arrived.Bids 7) ≡ told 0 0 7
-  pub arrived_refused : arrived_told (Arrived.Refused (Refusal.Unknown 2)) ≡ told 4 2 0
-  pub withdrawn : withdrawn_told (Withdrawn.Bids 7) ≡ told 0 0 7
-  pub withdrawn_refused : withdrawn_told (Withdrawn.Refused (Refusal.Gone 1)) ≡ told 5 1 0
-  pub read_out_served : read_out_told ReadOut.Written ≡ told 0 0 0
-  pub ended : ending_told Ending.Finished 7 ≡ told 0 0 7
-  pub stopped : ending_told (Ending.Stopped (Refusal.Unknown 1) 2) 7 ≡ told 4 2 7
-  pub planned : planned_told (Planned.Written 9) ≡ told 0 0 9
-  pub planned_refused : planned_told (Planned.Refused (Refusal.Unknown 1) 2) ≡ told 4 2 0
-  pub checked : checked_told (Checked.Totals (pence 150) (scaled 151)) ≡ record { number = 0; place = 0; weight = 150; total = 151 }
-  pub checked_refused : checked_told (Checked.Refused (Refusal.Bare 1)) ≡ record { number = 12; place = 1; weight = 0; total = 0 }
+  pub opened : opened_told (Ok tt) ≡ told 0 0 0
+  pub arrived : arrived_told (Ok 7) ≡ told 0 0 7
+  pub arrived_refused : arrived_told (Err (Refusal.Unknown 2)) ≡ told 4 2 0
+  pub withdrawn : withdrawn_told (Ok 7) ≡ told 0 0 7
+  pub withdrawn_refused : withdrawn_told (Err (Refusal.Gone 1)) ≡ told 5 1 0
+  pub read_out_served : read_out_told (Ok tt) ≡ told 0 0 0
+  pub ended : ending_told (Ok tt) 7 ≡ told 0 0 7
+  pub stopped : ending_told (halted (Refusal.Unknown 1) 2) 7 ≡ told 4 2 7
+  pub planned : planned_told (Ok 9) ≡ told 0 0 9
+  pub planned_refused : planned_told (halted (Refusal.Unknown 1) 2) ≡ told 4 2 0
+  pub checked : checked_told (Ok (pence 150, scaled 151)) ≡ record { number = 0; place = 0; weight = 150; total = 151 }
+  pub checked_refused : checked_told (Err (Refusal.Bare 1)) ≡ record { number = 12; place = 1; weight = 0; total = 0 }
 
 -- The worked refusals and answers
 pub record Worked : Type 0 where

@@ -1,11 +1,10 @@
 -- Two plans side by side (document 02, R-4), worked out in numbers. The order is 1 for earlier, 2 for same, 3 for later.
-use Rattle.std.specs.Prelude.{◌≡◌, List, [], ◌∷◌, ◌++◌, map, ℕ, ◌*◌, ℤ, pos, negsuc, replicate}
+use Rattle.std.specs.Prelude.{Ok, Err, ◌≡◌, List, [], ◌∷◌, ◌++◌, map, ℕ, ◌*◌, ℤ, pos, negsuc, replicate}
 use Rattle.supply.specs.declared.record.Board.{Board}
 use Rattle.board.specs.Limits.{max_items, max_bidders}
 use Rattle.board.specs.Cells.{edge, scaled}
 use Rattle.refusals.specs.declared.Refusal.{Refusal}
-use Rattle.comparison.specs.declared.order.Ordering.{Ordering}
-use Rattle.comparison.specs.declared.Compared.{Compared}
+use Rattle.std.specs.declared.cmp.Ordering.TheVariants.{Less, Equal, Greater}
 use Rattle.comparison.specs.declared.Comparison.{Comparison}
 use Rattle.comparison.specs.Compare.{compare_of, compared_told}
 use Rattle.cases.specs.FullBoard.{count, full}
@@ -73,7 +72,7 @@ pub record Sides : Type 0 where
   -- 13 before all else
   pub spoilt : (first second : List ℕ) → compared_told (compare_of (full 4) first second) ≡ told_as 13 0 (pos 0) 0
   -- Answers: number, place, difference and order
-  pub earlier : compared_told (Compared.Plans (pos 7) Ordering.Earlier) ≡ told_as 0 0 (pos 7) 1
-  pub same : compared_told (Compared.Plans (pos 0) Ordering.Same) ≡ told_as 0 0 (pos 0) 2
-  pub later : compared_told (Compared.Plans (negsuc 6) Ordering.Later) ≡ told_as 0 0 (negsuc 6) 3
-  pub refusal : compared_told (Compared.Refused (Refusal.Clash 2)) ≡ told_as 10 2 (pos 0) 0
+  pub earlier : compared_told (Ok (pos 7, Less)) ≡ told_as 0 0 (pos 7) 1
+  pub same : compared_told (Ok (pos 0, Equal)) ≡ told_as 0 0 (pos 0) 2
+  pub later : compared_told (Ok (negsuc 6, Greater)) ≡ told_as 0 0 (negsuc 6) 3
+  pub refusal : compared_told (Err (Refusal.Clash 2)) ≡ told_as 10 2 (pos 0) 0

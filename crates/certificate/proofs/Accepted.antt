@@ -1,9 +1,9 @@
 -- What the check accepts, both ways.
+use Rattle.std.specs.Prelude.{Ok}
 use mathlib.Core.Path.{◌≡◌, ◌∙◌}
 use Prim.Native.Nat.{ℕ}
 use Rattle.duality.specs.Lists.{cells}
 use Rattle.supply.specs.declared.record.Board.{Board}
-use Rattle.refusals.specs.declared.Verdict.TheVariants.{Served}
 use Rattle.supply.specs.Board.{places_at}
 use Rattle.supply.specs.ByItem.{withdrawn_at, live}
 use Rattle.supply.specs.Sound.{Sound}
@@ -33,7 +33,7 @@ module _ (b : Board) (l : Lists) (p q : ℕ) where
   w = live b
 
   -- Of a sound board, a slack in its range and lists of the right lengths, the lists' own refusals decide
-  pub lists-accepted : Sound b → SlackIn 0 p q → Even b l → first_of (lists_of b l p q) ≡ Served → Accepted b l p q
+  pub lists-accepted : Sound b → SlackIn 0 p q → Even b l → first_of (lists_of b l p q) ≡ Ok tt → Accepted b l p q
   unfolding list_checks
   lists-accepted sound slack even e =
       let (plan, e₁) = served-both _ _ e in
@@ -50,7 +50,7 @@ module _ (b : Board) (l : Lists) (p q : ℕ) where
         covers = (bare-served n m w p q (cells l.prices) (cells l.gains)).0 bare;
       }
 
-  accepted : first_of (check_checks b l p q) ≡ Served → Accepted b l p q
+  accepted : first_of (check_checks b l p q) ≡ Ok tt → Accepted b l p q
   unfolding check_rest
   accepted e =
       let (sound, e₁) = test-served _ _ _ e in
@@ -58,7 +58,7 @@ module _ (b : Board) (l : Lists) (p q : ℕ) where
       let (even, e₃) = test-served _ _ _ e₂ in
       lists-accepted ((sound-decides b).sound sound) ((slack-decides 0 p q).sound slack) ((lists-even b l).sound even) e₃
 
-  served : Accepted b l p q → first_of (check_checks b l p q) ≡ Served
+  served : Accepted b l p q → first_of (check_checks b l p q) ≡ Ok tt
   unfolding check_rest list_checks
   served a =
       test-serves _ _ _ ((sound-decides b).complete a.sound)

@@ -1,4 +1,5 @@
 -- Demand 1 of the check, from the one law of verdicts.
+use Rattle.std.specs.Prelude.{Err, Ok}
 use mathlib.Core.Path.{◌≡◌, refl, ap}
 use mathlib.Core.Bool.{true}
 use mathlib.Core.Logic.{◌⊎◌, inl, inr, ⊎_elim}
@@ -13,13 +14,11 @@ use Rattle.places.specs.PlanTest.{cell_test_with}
 use Rattle.supply.specs.declared.record.Board.{Board}
 use Rattle.refusals.specs.declared.Refusal.{Refusal}
 use Rattle.refusals.specs.declared.Refusal.TheVariants.{Slack, Uneven, Clash, Price, Bare, Spoilt}
-use Rattle.refusals.specs.declared.Verdict.{Verdict}
-use Rattle.refusals.specs.declared.Verdict.TheVariants.{Served, Refused}
 use Rattle.supply.specs.Board.{places_at}
 use Rattle.supply.specs.ByItem.{withdrawn_at, live}
 use Rattle.supply.specs.Sound.{Sound}
 use Rattle.board.specs.Ranges.{SlackIn}
-use Rattle.refusals.specs.Demand1.{first_of}
+use Rattle.refusals.specs.Demand1.{first_of, Verdict}
 use Rattle.board.specs.Lent.{Lists}
 use Rattle.board.proofs.Tests.{no-decides, slack-decides}
 use Rattle.supply.proofs.SoundLaw.{sound-decides}
@@ -27,7 +26,6 @@ use Rattle.refusals.proofs.Verdicts.{Decided, next, decided-append, demand-1}
 use Rattle.refusals.proofs.Places.{cells-decide, cells-codes, codes-both}
 use Rattle.matching.specs.Clash.{Clashes, clash_checks}
 use Rattle.matching.proofs.Clashes.{clashes-tested}
-use Rattle.certificate.specs.declared.Checked.{Checked}
 use Rattle.board.specs.Limits.{max_price}
 use Rattle.certificate.specs.Check.{Even, PriceBad, Uncovered, CheckMet, price_test, price_checks, gain_checks, covered_test, bare_checks, list_checks, check_rest, check_checks, check_by, check_of}
 use Rattle.certificate.specs.Demand1.{CheckDemand1, CheckOrder}
@@ -143,9 +141,9 @@ check-demand-1 b l p q =
     (λ r. (λ e. rw e, λ e. by-refused r (first_of (check_checks b l p q)) (checked_refused _ r e)))
     (λ e. rw e, λ e. by-totals b l (first_of (check_checks b l p q)) _ _ (checked-totals _ _ _ e))
   where
-    by-refused : (r : Refusal) (v : Verdict) → check_by b l v ≡ Checked.Refused r → v ≡ Refused r
-    by-refused r Served e = let z : ◌≡◌ {A = ℕ} 0 1 = cc in absurd (omega arith)
-    by-refused r (Refused s) e = let h : s ≡ r = cc in ap Refused h
+    by-refused : (r : Refusal) (v : Verdict) → check_by b l v ≡ Err r → v ≡ Err r
+    by-refused r (Ok tt) e = let z : ◌≡◌ {A = ℕ} 0 1 = cc in absurd (omega arith)
+    by-refused r (Err s) e = let h : s ≡ r = cc in ap Err h
 
 -- ---- The order of the checks
 

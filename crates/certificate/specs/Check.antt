@@ -1,5 +1,5 @@
 -- What the check answers, on all inputs.
-use Rattle.std.specs.Prelude.{◌≡◌, Bool, true, not, ◌&&◌, ◌||◌, List, ◌∷◌, ◌++◌, ℕ, suc, ◌+◌, ◌-◌, ◌*◌, ◌≤◌, ◌<◌, length, eqb, leb}
+use Rattle.std.specs.Prelude.{◌≡◌, Bool, true, not, ◌&&◌, ◌||◌, List, ◌∷◌, ◌++◌, ℕ, suc, ◌+◌, ◌-◌, ◌*◌, ◌≤◌, ◌<◌, length, eqb, leb, Result, Ok, Err}
 use Rattle.duality.specs.Matching.{weight_of}
 use Rattle.places.specs.Total.{total_with}
 use Rattle.duality.specs.Decide.{all_below}
@@ -7,19 +7,19 @@ use Rattle.duality.specs.Lists.{cells}
 use Rattle.supply.specs.declared.record.Board.{Board}
 use Rattle.refusals.specs.declared.Refusal.{Refusal}
 use Rattle.refusals.specs.declared.Refusal.TheVariants.{Slack, Uneven, Clash, Price, Bare, Spoilt}
-use Rattle.refusals.specs.declared.Verdict.{Verdict}
 use Rattle.refusals.specs.declared.Told.{Told}
 use Rattle.refusals.specs.Told.{refused}
 use Rattle.supply.specs.Board.{places_at}
 use Rattle.supply.specs.ByItem.{withdrawn_at, live}
+use Rattle.board.specs.declared.units.Pence.{Pence}
+use Rattle.board.specs.declared.units.Scaled.{Scaled}
 use Rattle.board.specs.Cells.{pence, scaled}
 use Rattle.supply.specs.Sound.{Sound}
 use Rattle.board.specs.Ranges.{SlackIn, slack_test}
 use Rattle.supply.specs.SoundTest.{sound_test}
-use Rattle.refusals.specs.Demand1.{Check, check_for, first_of}
+use Rattle.refusals.specs.Demand1.{Check, check_for, first_of, Verdict}
 use Rattle.refusals.specs.Each.{cell_checks}
 use Rattle.board.specs.Lent.{Lists}
-use Rattle.certificate.specs.declared.Checked.{Checked}
 use Rattle.certificate.specs.declared.Totals.{Totals}
 use Rattle.board.specs.Limits.{max_price}
 use Rattle.matching.specs.Clash.{Clashes, clash_checks}
@@ -106,12 +106,16 @@ check_checks b l p q = check_for Spoilt (not (sound_test b)) ∷ check_rest b l 
 
 -- ---- "It answers the plan's worth and the sum of prices and gains"; "the check and exact level count a kettle's price once per place" (document 02, R-6)
 
-unfoldable pub check_by : Board → Lists → Verdict → Checked
-check_by b l Verdict.Served =
-    Checked.Totals (pence (weight_of b.market.arrived (live b) (cells l.plan))) (scaled (total_with b.market.arrived b.items.count (places_at b) (cells l.prices) (cells l.gains)))
-check_by b l (Verdict.Refused r) = Checked.Refused r
+-- The matching's weight, and the sum of prices and gains; or the refusal
+abbrev pub Checked : Type 0
+Checked = Result (Pence × Scaled) Refusal
 
--- The lists are only read, and the board is taken by value
+unfoldable pub check_by : Board → Lists → Verdict → Checked
+check_by b l (Ok tt) =
+    Ok (pence (weight_of b.market.arrived (live b) (cells l.plan)), scaled (total_with b.market.arrived b.items.count (places_at b) (cells l.prices) (cells l.gains)))
+check_by b l (Err r) = Err r
+
+-- The lists and the board are only read
 unfoldable pub check_of : Board → Lists → ℕ → ℕ → Checked
 check_of b l p q = check_by b l (first_of (check_checks b l p q))
 
@@ -124,5 +128,5 @@ abbrev pub without_totals : Told → Totals
 without_totals t = record { number = t.number; place = t.place; weight = 0; total = 0 }
 
 abbrev pub checked_told : Checked → Totals
-checked_told (Checked.Totals w s) = totals w.0 s.0
-checked_told (Checked.Refused r) = without_totals (refused r)
+checked_told (Ok (w, s)) = totals w.0 s.0
+checked_told (Err r) = without_totals (refused r)

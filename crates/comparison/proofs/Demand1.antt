@@ -1,4 +1,5 @@
 -- Demand 1 of the comparison: the board first, then the first plan, then the second.
+use Rattle.std.specs.Prelude.{Err, Ok}
 use mathlib.Core.Path.{◌≡◌, refl, sym, ◌∙◌}
 use mathlib.Core.Bool.{Bool, true, false}
 use mathlib.Core.List.{List}
@@ -10,9 +11,7 @@ use Rattle.places.specs.PlanTest.{cell_test_with}
 use Rattle.duality.proofs.Decide.{reword, eq-decides, false-is, clash}
 use Rattle.refusals.specs.declared.Refusal.{Refusal}
 use Rattle.refusals.specs.declared.Refusal.TheVariants.{Uneven, Clash, Spoilt}
-use Rattle.refusals.specs.declared.Verdict.{Verdict}
-use Rattle.refusals.specs.declared.Verdict.TheVariants.{Served, Refused}
-use Rattle.refusals.specs.Demand1.{codes_of, first_of}
+use Rattle.refusals.specs.Demand1.{codes_of, first_of, Verdict}
 use Rattle.refusals.specs.Each.{places_of}
 use Rattle.refusals.proofs.Verdicts.{Decided, next, refuses, serves, served_by, refused_by, first_on, first_stops, served-both}
 use Rattle.refusals.proofs.Places.{test-served, test-serves, cells-decide, cells-codes, codes-both}
@@ -27,7 +26,7 @@ use Rattle.matching.specs.Clash.{Clashes, clash_checks}
 use Rattle.matching.specs.Plans.{PlanOn}
 use Rattle.matching.proofs.Clashes.{clashes-tested, unclashed-matches}
 use Rattle.comparison.specs.Compare.{PlanMet, plan_checks_on, plans_checks, compare_checks, compare_by, compare_of}
-use Rattle.comparison.specs.Demand1.{CompareRefused, CompareDemand1, CompareOrder, TwoPlans, ComparesPlans, Tells, TellsRefusal}
+use Rattle.comparison.specs.Demand1.{CompareRefused, CompareDemand1, CompareOrder, ComparesPlans, Tells, TellsRefusal}
 use Rattle.comparison.proofs.Outcomes.{plans_on, told-refused, by-refused, by-served}
 
 -- ---- One plan
@@ -46,7 +45,7 @@ module _ (b : Board) (plan : List ℕ) where
       (λ i h. reword (clashes-tested b (cells plan) i) (λ x. PlanMet.clash h x) (clash-met i)))
 
   -- Nothing is met exactly when it is a plan on the live sheet
-  plan-served : (first_of (plan_checks_on b plan) ≡ Served) ↔ PlanOn b plan
+  pub plan-served : (first_of (plan_checks_on b plan) ≡ Ok tt) ↔ PlanOn b plan
   plan-served = (
     λ e. let (size, rest) = test-served _ _ _ e in
         record { size = (eq-decides (length plan) b.market.arrived).sound size; matches = (unclashed-matches _ _ _ _ _).0 rest },
@@ -61,34 +60,34 @@ module _ (b : Board) (first second : List ℕ) where
   unfolding first_of
   verdict-sound s = let e : sound_test b ≡ true = (sound-decides b).complete s in rw e
 
-  verdict-spoilt : (Sound b → ⊥) → first_of (compare_checks b first second) ≡ Refused Spoilt
+  verdict-spoilt : (Sound b → ⊥) → first_of (compare_checks b first second) ≡ Err Spoilt
   unfolding first_of
   verdict-spoilt f = let e : false ≡ sound_test b = false-is _ (sound-decides b) f in rw (← e)
 
-  plans-refused-by : (r : Refusal) → Sound b → first_of (plans_on b first second) ≡ Refused r → CompareRefused b first second r
+  plans-refused-by : (r : Refusal) → Sound b → first_of (plans_on b first second) ≡ Err r → CompareRefused b first second r
   unfolding plans_checks
   plans-refused-by r s e = go (first_of (plan_checks_on b first)) refl
     where
       go : (v : Verdict) → first_of (plan_checks_on b first) ≡ v → CompareRefused b first second r
-      go Served q =
+      go (Ok tt) q =
           CompareRefused.by-second s (serves (PlanMet b first) (plan-decided b first) q)
           (refuses (PlanMet b second) (plan-decided b second) r (sym (first_on _ _ q) ∙ e))
-      go (Refused t) q =
-          let h : Refused t ≡ Refused r = sym (first_stops _ _ t q) ∙ e in
+      go (Err t) q =
+          let h : Err t ≡ Err r = sym (first_stops _ _ t q) ∙ e in
           CompareRefused.by_first s (refuses (PlanMet b first) (plan-decided b first) r (q ∙ h))
 
-  refused-so : (r : Refusal) → first_of (compare_checks b first second) ≡ Refused r → CompareRefused b first second r
+  refused-so : (r : Refusal) → first_of (compare_checks b first second) ≡ Err r → CompareRefused b first second r
   refused-so r e = go (sound_test b) refl
     where
       go : (t : Bool) → sound_test b ≡ t → CompareRefused b first second r
       go true q = let s = (sound-decides b).sound q in plans-refused-by r s (sym (verdict-sound s) ∙ e)
       go false q =
           let f : Sound b → ⊥ = λ s. clash (sound_test b) ((sound-decides b).complete s) q in
-          let g : Refused Spoilt ≡ Refused r = sym (verdict-spoilt f) ∙ e in
+          let g : Err Spoilt ≡ Err r = sym (verdict-spoilt f) ∙ e in
           let h : Spoilt ≡ r = cc in
           rw (← h) (CompareRefused.spoilt f)
 
-  so-refused : (r : Refusal) → CompareRefused b first second r → first_of (compare_checks b first second) ≡ Refused r
+  so-refused : (r : Refusal) → CompareRefused b first second r → first_of (compare_checks b first second) ≡ Err r
   unfolding plans_checks
   so-refused r (CompareRefused.spoilt f) = verdict-spoilt f
   so-refused r (CompareRefused.by_first s l) = verdict-sound s ∙ first_stops _ _ r (refused_by (PlanMet b first) (plan-decided b first) r l)
@@ -96,7 +95,7 @@ module _ (b : Board) (first second : List ℕ) where
       verdict-sound s ∙ first_on _ _ (served_by (PlanMet b first) (plan-decided b first) u) ∙ refused_by (PlanMet b second) (plan-decided b second) r l
 
   -- Both verdicts are served
-  all-served : (first_of (compare_checks b first second) ≡ Served) ↔ (Sound b × (first_of (plan_checks_on b first) ≡ Served) × (first_of (plan_checks_on b second) ≡ Served))
+  all-served : (first_of (compare_checks b first second) ≡ Ok tt) ↔ (Sound b × (first_of (plan_checks_on b first) ≡ Ok tt) × (first_of (plan_checks_on b second) ≡ Ok tt))
   unfolding plans_checks
   all-served = (
     λ e. let (sound, rest) = test-served _ _ _ e in
@@ -105,12 +104,6 @@ module _ (b : Board) (first second : List ℕ) where
     λ (s, one, other). test-serves _ _ _ ((sound-decides b).complete s) (first_on _ _ one ∙ other),
   )
 
-  pub plans-accepted : Sound b → first_of (plans_on b first second) ≡ Served → TwoPlans b first second
-  unfolding plans_checks
-  plans-accepted s e =
-      let (one, other) = served-both _ _ e in
-      record { sound = s; first = (plan-served b first).0 one; second = (plan-served b second).0 other }
-
   told-so : (r : Refusal) → TellsRefusal b first second r ↔ CompareRefused b first second r
   unfolding compare_of compare_by
   told-so r = (
@@ -118,7 +111,7 @@ module _ (b : Board) (first second : List ℕ) where
     λ c. rw (so-refused r c),
   )
 
-  served-told : Tells b first second ↔ (first_of (compare_checks b first second) ≡ Served)
+  served-told : Tells b first second ↔ (first_of (compare_checks b first second) ≡ Ok tt)
   unfolding compare_of compare_by
   served-told = (λ e. by-served b first second _ _ _ e, λ e. rw e)
 

@@ -1,18 +1,14 @@
 -- The difference of two weights, as a whole number.
-use mathlib.Core.Path.{◌≡◌, sym, ap, ap₂, ◌∙◌}
+use mathlib.Core.Path.{◌≡◌, sym, ap}
 use mathlib.Core.Logic.{◌↔◌, by_cases}
-use Prim.Native.Nat.{ℕ, zero, suc, ◌+◌, ◌-◌, ◌^◌, ◌≤◌, ◌<◌}
-use native.Mathlib.Nat.{le_of_lt, lt_of_le_of_lt}
+use Prim.Native.Nat.{ℕ, zero, suc, ◌+◌, ◌-◌, ◌≤◌, ◌<◌}
 use native.Mathlib.Decide.{dec_lt}
 use native.Mathlib.Omega.{arith}
 use lib.IntN.{ℤ, pos, negsuc, neg_ℤ, nat_abs, ◌-ℤ◌, pos-ne-negsuc}
-use lib.Dec.{ltb→lt, lt→ltb, lit<}
+use lib.Dec.{ltb→lt, lt→ltb}
 use lib.Signed.{◌<ℤ◌, lt_z_yes}
-use mir.Syntax.{w64}
-use mir.Val.{SFits, hbits, to_z, of_z}
-use mir.Facts.{to_z_pos, to_z-of_z}
 use borrow.Author.Tests.{lt-ltb, le-ltb}
-use Rattle.matching.specs.Plans.{weight_on, most_weight}
+use Rattle.matching.specs.Plans.{weight_on}
 use Rattle.matching.proofs.Plans.{plans-within}
 use Rattle.comparison.specs.DifferenceLaws.{DifferenceExact, DifferenceWithin}
 
@@ -90,30 +86,6 @@ module _ (x y : ℕ) where
       go : {z : ℤ} → Apart x y z → nat_abs z ≤ most
       go (more c e) = omega arith
       go (less c e) = omega arith
-
--- ---- As the code comes to it: 64 bits, read with a sign
-
--- A number up to the greatest weight fits
-limit : most_weight < 2 ^ hbits w64
-limit = lit< tt
-
-fits-within : (z : ℤ) → nat_abs z ≤ most_weight → SFits w64 z
-fits-within (pos n) l = record { sfits = lt_of_le_of_lt l limit }
-fits-within (negsuc n) l = record { sfits = lt_of_le_of_lt (le_of_lt l) limit }
-
-pub weight-fits : {x : ℕ} → x ≤ most_weight → SFits w64 (pos x)
-weight-fits {x} l = fits-within (pos x) l
-
-module _ {x y : ℕ} (l : x ≤ most_weight) (m : y ≤ most_weight) where
-  -- What the bits of the weights are read as
-  read : to_z w64 x -ℤ to_z w64 y ≡ pos x -ℤ pos y
-  read = ap₂ ◌-ℤ◌ (to_z_pos w64 (lt_of_le_of_lt l limit)) (to_z_pos w64 (lt_of_le_of_lt m limit))
-
-  pub difference-fits : SFits w64 (to_z w64 x -ℤ to_z w64 y)
-  difference-fits = rw read (fits-within (pos x -ℤ pos y) (between x y most_weight l m))
-
-  pub difference-read : to_z w64 (of_z w64 (to_z w64 x -ℤ to_z w64 y)) ≡ pos x -ℤ pos y
-  difference-read = to_z-of_z difference-fits ∙ read
 
 -- ---- Of plans
 

@@ -11,8 +11,8 @@ use Rattle.duality.proofs.Agree.{weight-as}
 use Rattle.supply.specs.declared.record.Board.{Board}
 use Rattle.supply.specs.ByItem.{live}
 use Rattle.matching.specs.Plans.{PlanOn, weight_on}
-use Rattle.comparison.specs.declared.order.Ordering.{Ordering}
-use Rattle.comparison.specs.declared.order.Ordering.TheVariants.{Earlier, Same, Later}
+use Rattle.std.specs.declared.cmp.Ordering.{Ordering}
+use Rattle.std.specs.declared.cmp.Ordering.TheVariants.{Less, Equal, Greater}
 use Rattle.comparison.specs.Compare.{order_of, order_number}
 use Rattle.comparison.specs.OrderLaws.{Precedes, heavier, smaller, SameCells, OrderMeans, NotLater, turned, SignsTell, OrderTotal}
 use Rattle.comparison.proofs.Differences.{difference-exact}
@@ -71,52 +71,52 @@ module _ (b : Board) where
   -- ---- What is answered
 
   module _ (first second : List ℕ) where
-    is-earlier : Precedes b first second → order_of b first second ≡ Earlier
+    is-earlier : Precedes b first second → order_of b first second ≡ Less
     is-earlier p = go (stands b first second)
       where
-        go : {o : Ordering} → Stands b first second o → o ≡ Earlier
+        go : {o : Ordering} → Stands b first second o → o ≡ Less
         go (Stands.before q) = refl
         go (Stands.behind q) = absurd (not-both first second p q)
         go (Stands.alike e) = absurd (not_same first second e p)
 
-    is_later : Precedes b second first → order_of b first second ≡ Later
+    is_later : Precedes b second first → order_of b first second ≡ Greater
     is_later p = go (stands b first second)
       where
-        go : {o : Ordering} → Stands b first second o → o ≡ Later
+        go : {o : Ordering} → Stands b first second o → o ≡ Greater
         go (Stands.before q) = absurd (not-both first second q p)
         go (Stands.behind q) = refl
         go (Stands.alike e) = absurd (not_same second first (λ i l. sym (e i l)) p)
 
-    is_same : SameCells b first second → order_of b first second ≡ Same
+    is_same : SameCells b first second → order_of b first second ≡ Equal
     is_same e = go (stands b first second)
       where
-        go : {o : Ordering} → Stands b first second o → o ≡ Same
+        go : {o : Ordering} → Stands b first second o → o ≡ Equal
         go (Stands.before q) = absurd (not_same first second e q)
         go (Stands.behind q) = absurd (not_same second first (λ i l. sym (e i l)) q)
         go (Stands.alike f) = refl
 
-    earlier-is : order_of b first second ≡ Earlier → Precedes b first second
+    earlier-is : order_of b first second ≡ Less → Precedes b first second
     earlier-is e = go (stands b first second) e
       where
-        go : {o : Ordering} → Stands b first second o → o ≡ Earlier → Precedes b first second
+        go : {o : Ordering} → Stands b first second o → o ≡ Less → Precedes b first second
         go (Stands.before q) e = q
-        go (Stands.behind q) e = differ Later Earlier e (λ z. omega arith)
-        go (Stands.alike f) e = differ Same Earlier e (λ z. omega arith)
+        go (Stands.behind q) e = differ Greater Less e (λ z. omega arith)
+        go (Stands.alike f) e = differ Equal Less e (λ z. omega arith)
 
-    later-is : order_of b first second ≡ Later → Precedes b second first
+    later-is : order_of b first second ≡ Greater → Precedes b second first
     later-is e = go (stands b first second) e
       where
-        go : {o : Ordering} → Stands b first second o → o ≡ Later → Precedes b second first
-        go (Stands.before q) e = differ Earlier Later e (λ z. omega arith)
+        go : {o : Ordering} → Stands b first second o → o ≡ Greater → Precedes b second first
+        go (Stands.before q) e = differ Less Greater e (λ z. omega arith)
         go (Stands.behind q) e = q
-        go (Stands.alike f) e = differ Same Later e (λ z. omega arith)
+        go (Stands.alike f) e = differ Equal Greater e (λ z. omega arith)
 
-    same-is : order_of b first second ≡ Same → SameCells b first second
+    same-is : order_of b first second ≡ Equal → SameCells b first second
     same-is e = go (stands b first second) e
       where
-        go : {o : Ordering} → Stands b first second o → o ≡ Same → SameCells b first second
-        go (Stands.before q) e = differ Earlier Same e (λ z. omega arith)
-        go (Stands.behind q) e = differ Later Same e (λ z. omega arith)
+        go : {o : Ordering} → Stands b first second o → o ≡ Equal → SameCells b first second
+        go (Stands.before q) e = differ Less Equal e (λ z. omega arith)
+        go (Stands.behind q) e = differ Greater Equal e (λ z. omega arith)
         go (Stands.alike f) e = f
 
     -- Earlier or the same

@@ -2,27 +2,26 @@
 use mathlib.Core.Path.{◌≡◌}
 use mathlib.Core.List.{List}
 use mathlib.Core.Logic.{by_cases}
-use Prim.Native.Nat.{ℕ, zero, suc, ◌+◌, ◌-◌, ◌≤◌, ◌<◌}
+use Prim.Native.Nat.{ℕ, zero, suc, ◌+◌, ◌≤◌, ◌<◌}
 use native.Mathlib.Decide.{ℕ_discrete, dec_lt}
-use native.Mathlib.Numerals.{add-one}
 use native.Mathlib.Omega.{arith}
 use borrow.Author.Tests.{lt-ltb, le-ltb}
 use Rattle.duality.specs.Lists.{cells}
 use Rattle.supply.specs.declared.record.Board.{Board}
 use Rattle.matching.specs.Plans.{weight_on}
-use Rattle.comparison.specs.declared.order.Ordering.{Ordering}
-use Rattle.comparison.specs.declared.order.Ordering.TheVariants.{Earlier, Same, Later}
+use Rattle.std.specs.declared.cmp.Ordering.{Ordering}
+use Rattle.std.specs.declared.cmp.Ordering.TheVariants.{Less, Equal, Greater}
 use Rattle.comparison.specs.Compare.{smaller_first, cells_order, order_of}
 use Rattle.comparison.specs.OrderLaws.{Precedes, SameCells}
 
 -- ---- The smaller number first
 
 module _ (x y : ℕ) (rest : Ordering) where
-  pub first-smaller : x < y → Earlier ≡ smaller_first x y rest
+  pub first-smaller : x < y → Less ≡ smaller_first x y rest
   unfolding smaller_first
   first-smaller l = rw (lt-ltb x y l)
 
-  pub second-smaller : y < x → Later ≡ smaller_first x y rest
+  pub second-smaller : y < x → Greater ≡ smaller_first x y rest
   unfolding smaller_first
   second-smaller l = let f : y ≤ x = omega arith in rw (le-ltb x y f, lt-ltb y x l)
 
@@ -30,7 +29,7 @@ module _ (x y : ℕ) (rest : Ordering) where
   unfolding smaller_first
   equal-numbers f g = rw (le-ltb x y f, le-ltb y x g)
 
-  smaller-cases : (P : Ordering → Type 0) → (x < y → P Earlier) → (y < x → P Later) → (x ≡ y → P rest) → P (smaller_first x y rest)
+  smaller-cases : (P : Ordering → Type 0) → (x < y → P Less) → (y < x → P Greater) → (x ≡ y → P rest) → P (smaller_first x y rest)
   smaller-cases P a b c =
       by_cases (dec_lt x y)
       (λ l. rw (← first-smaller l) (a l))
@@ -42,9 +41,9 @@ module _ (x y : ℕ) (rest : Ordering) where
 
 module _ (first second : ℕ → ℕ) where
   data CellsStand (i n : ℕ) : Ordering → Type 0 where
-    before : (j : ℕ) → i ≤ j → j < i + n → ((h : ℕ) → i ≤ h → h < j → first h ≡ second h) → first j < second j → CellsStand i n Earlier
-    behind : (j : ℕ) → i ≤ j → j < i + n → ((h : ℕ) → i ≤ h → h < j → second h ≡ first h) → second j < first j → CellsStand i n Later
-    alike : ((h : ℕ) → i ≤ h → h < i + n → first h ≡ second h) → CellsStand i n Same
+    before : (j : ℕ) → i ≤ j → j < i + n → ((h : ℕ) → i ≤ h → h < j → first h ≡ second h) → first j < second j → CellsStand i n Less
+    behind : (j : ℕ) → i ≤ j → j < i + n → ((h : ℕ) → i ≤ h → h < j → second h ≡ first h) → second j < first j → CellsStand i n Greater
+    alike : ((h : ℕ) → i ≤ h → h < i + n → first h ≡ second h) → CellsStand i n Equal
 
   cells-next : (i n : ℕ) {o : Ordering} → first i ≡ second i → CellsStand (suc i) n o → CellsStand i (suc n) o
   cells-next i n e (before j l m p s) =
@@ -66,9 +65,9 @@ module _ (first second : ℕ → ℕ) where
 -- ---- Plans
 
 pub data Stands (b : Board) (first second : List ℕ) : Ordering → Type 0 where
-  before : Precedes b first second → Stands b first second Earlier
-  behind : Precedes b second first → Stands b first second Later
-  alike : SameCells b first second → Stands b first second Same
+  before : Precedes b first second → Stands b first second Less
+  behind : Precedes b second first → Stands b first second Greater
+  alike : SameCells b first second → Stands b first second Equal
 
 pub stands : (b : Board) (first second : List ℕ) → Stands b first second (order_of b first second)
 stands b first second =
@@ -81,32 +80,3 @@ stands b first second =
     by-cells e (CellsStand.before j l m p s) = Stands.before (Precedes.smaller j (omega arith) (omega arith) (λ h k. p h (omega arith) k) s)
     by-cells e (CellsStand.behind j l m p s) = Stands.behind (Precedes.smaller j (omega arith) e (λ h k. p h (omega arith) k) s)
     by-cells e (CellsStand.alike p) = Stands.alike (λ i k. p i (omega arith) (omega arith))
-
--- ---- A loop over n cells has come to cell i: those before it are alike, and what is left decides
-
-pub record Alike (first second : ℕ → ℕ) (n i : ℕ) : Type 0 where
-  pub within : i ≤ n
-  pub same : cells_order first second 0 n ≡ cells_order first second i (n - i)
-
-module _ {first second : ℕ → ℕ} {n : ℕ} where
-  pub alike-start : Alike first second n 0
-  alike-start = let e : n - 0 ≡ n = omega arith in record { within = omega arith; same = rw e }
-
-  module _ {i : ℕ} (at : Alike first second n i) where
-    pub alike_end : n ≤ i → Same ≡ cells_order first second 0 n
-    unfolding cells_order
-    alike_end l = let e : n - i ≡ 0 = omega arith in rw (at.same, e)
-
-    module _ (l : i < n) where
-      next-cell : cells_order first second i (n - i) ≡ smaller_first (first i) (second i) (cells_order first second (suc i) (n - suc i))
-      unfolding cells_order
-      next-cell = let s : n - i ≡ suc (n - suc i) = omega arith in rw s
-
-      pub cell-before : first i < second i → Earlier ≡ cells_order first second 0 n
-      cell-before s = rw (at.same, next-cell) (first-smaller _ _ _ s)
-
-      pub cell-behind : second i < first i → Later ≡ cells_order first second 0 n
-      cell-behind s = rw (at.same, next-cell) (second-smaller _ _ _ s)
-
-      pub cell-alike : second i ≤ first i → first i ≤ second i → Alike first second n (i + 1)
-      cell-alike f g = record { within = omega arith; same = rw (at.same, next-cell, add-one, ← equal-numbers _ _ (cells_order first second (suc i) (n - suc i)) f g) }

@@ -1,21 +1,19 @@
 -- Two plans side by side (document 02, R-4): what the call answers, on all inputs. A plan is read by cell: bidder i + 1 is cell i.
-use Rattle.std.specs.Prelude.{◌≡◌, cond, not, List, ◌∷◌, ◌++◌, ℕ, zero, suc, ◌<◌, ℤ, pos, ◌-ℤ◌, length, eqb, ltb}
+use Rattle.std.specs.Prelude.{◌≡◌, cond, not, List, ◌∷◌, ◌++◌, ℕ, zero, suc, ◌<◌, ℤ, pos, ◌-ℤ◌, length, eqb, ltb, Err, Ok, Result}
+use Rattle.std.specs.declared.cmp.Ordering.{Ordering}
+use Rattle.std.specs.declared.cmp.Ordering.TheVariants.{Less, Equal, Greater}
 use Rattle.duality.specs.Lists.{cells}
 use Rattle.refusals.specs.declared.Refusal.{Refusal}
 use Rattle.refusals.specs.declared.Refusal.TheVariants.{Uneven, Clash, Spoilt}
 use Rattle.refusals.specs.declared.Told.{Told}
-use Rattle.refusals.specs.declared.Verdict.{Verdict}
 use Rattle.refusals.specs.Told.{refused}
-use Rattle.refusals.specs.Demand1.{Check, check_for, first_of}
+use Rattle.refusals.specs.Demand1.{Check, check_for, first_of, Verdict}
 use Rattle.supply.specs.declared.record.Board.{Board}
 use Rattle.supply.specs.Board.{places_at}
 use Rattle.supply.specs.ByItem.{live}
 use Rattle.supply.specs.SoundTest.{sound_test}
 use Rattle.matching.specs.Clash.{Clashes, clash_checks}
 use Rattle.matching.specs.Plans.{weight_on}
-use Rattle.comparison.specs.declared.order.Ordering.{Ordering}
-use Rattle.comparison.specs.declared.order.Ordering.TheVariants.{Earlier, Same, Later}
-use Rattle.comparison.specs.declared.Compared.{Compared}
 use Rattle.comparison.specs.declared.Comparison.{Comparison}
 
 -- ---- The checks: "13, then 9 and 10 for the first plan, then 9 and 10 for the second"
@@ -49,22 +47,26 @@ difference_of b first second = pos (weight_on b first) -ℤ pos (weight_on b sec
 
 -- The smaller of two numbers first; of equal ones the rest decides
 unfoldable pub smaller_first : ℕ → ℕ → Ordering → Ordering
-smaller_first x y rest = cond (ltb x y) Earlier (cond (ltb y x) Later rest)
+smaller_first x y rest = cond (ltb x y) Less (cond (ltb y x) Greater rest)
 
 -- n cells of two plans, from cell i on
 unfoldable pub cells_order : (ℕ → ℕ) → (ℕ → ℕ) → ℕ → ℕ → Ordering
-cells_order first second i zero = Same
+cells_order first second i zero = Equal
 cells_order first second i (suc n) = smaller_first (first i) (second i) (cells_order first second (suc i) n)
 
 -- Where the first plan stands beside the second. Of weights the greater is first, so the second's is asked whether it is the smaller
 abbrev pub order_of : Board → List ℕ → List ℕ → Ordering
 order_of b first second = smaller_first (weight_on b second) (weight_on b first) (cells_order (cells first) (cells second) 0 b.market.arrived)
 
--- ---- The answer. The plans are only read, and the board is taken by value
+-- ---- The answer. The plans and the board are only read
+
+-- The difference, and where the first plan stands beside the second; or the refusal
+abbrev pub Compared : Type 0
+Compared = Result (ℤ × Ordering) Refusal
 
 unfoldable pub compare_by : Board → List ℕ → List ℕ → Verdict → Compared
-compare_by b first second Verdict.Served = Compared.Plans (difference_of b first second) (order_of b first second)
-compare_by b first second (Verdict.Refused r) = Compared.Refused r
+compare_by b first second (Ok tt) = Ok (difference_of b first second, order_of b first second)
+compare_by b first second (Err r) = Err r
 
 unfoldable pub compare_of : Board → List ℕ → List ℕ → Compared
 compare_of b first second = compare_by b first second (first_of (compare_checks b first second))
@@ -72,9 +74,9 @@ compare_of b first second = compare_by b first second (first_of (compare_checks 
 -- ---- What is told: number 0 with difference and order, or the refusal with neither. No order is 0, so that a refusal is not read as one
 
 abbrev pub order_number : Ordering → ℕ
-order_number Earlier = 1
-order_number Same = 2
-order_number Later = 3
+order_number Less = 1
+order_number Equal = 2
+order_number Greater = 3
 
 abbrev pub compared : ℤ → ℕ → Comparison
 compared difference order = record { number = 0; place = 0; difference = difference; order = order }
@@ -83,5 +85,5 @@ abbrev pub uncompared : Told → Comparison
 uncompared t = record { number = t.number; place = t.place; difference = pos 0; order = 0 }
 
 abbrev pub compared_told : Compared → Comparison
-compared_told (Compared.Plans difference order) = compared difference (order_number order)
-compared_told (Compared.Refused r) = uncompared (refused r)
+compared_told (Ok (difference, order)) = compared difference (order_number order)
+compared_told (Err r) = uncompared (refused r)

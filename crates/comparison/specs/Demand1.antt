@@ -9,9 +9,8 @@ use Rattle.refusals.specs.Each.{places_of}
 use Rattle.supply.specs.declared.record.Board.{Board}
 use Rattle.supply.specs.Sound.{Sound}
 use Rattle.matching.specs.Plans.{PlanOn}
-use Rattle.comparison.specs.declared.order.Ordering.{Ordering}
-use Rattle.comparison.specs.declared.Compared.{Compared}
-use Rattle.comparison.specs.Compare.{PlanMet, plan_checks_on, compare_checks, difference_of, order_of, compare_of, order_number, compared, uncompared, compared_told}
+use Rattle.std.specs.declared.cmp.Ordering.{Ordering}
+use Rattle.comparison.specs.Compare.{Compared, PlanMet, plan_checks_on, compare_checks, difference_of, order_of, compare_of, order_number, compared, uncompared, compared_told}
 
 -- "13, then 9 and 10 for the first plan, then 9 and 10 for the second": what is refused, and by what
 pub data CompareRefused (b : Board) (first second : List ℕ) : Refusal → Type 0 where

@@ -1,4 +1,5 @@
 -- Demand 1 of the slow count: 13, then 17.
+use Rattle.std.specs.Prelude.{Err, Ok}
 use mathlib.Core.Path.{◌≡◌, refl, sym, ap}
 use mathlib.Core.Bool.{false}
 use mathlib.Core.List.{[], ◌∷◌}
@@ -12,10 +13,8 @@ use Rattle.duality.proofs.Decide.{clash, reword, lt-decides, or-decides, false-i
 use Rattle.refusals.specs.declared.Refusal.{Refusal}
 use Rattle.refusals.specs.declared.Refusal.TheVariants.{Spoilt, Large}
 use Rattle.refusals.specs.declared.Told.{Told}
-use Rattle.refusals.specs.declared.Verdict.{Verdict}
-use Rattle.refusals.specs.declared.Verdict.TheVariants.{Served, Refused}
 use Rattle.refusals.specs.Told.{served, refused}
-use Rattle.refusals.specs.Demand1.{check_for, first_of}
+use Rattle.refusals.specs.Demand1.{check_for, first_of, Verdict}
 use Rattle.refusals.proofs.Verdicts.{Decided, ends, next, demand-1, served-next}
 use Rattle.refusals.proofs.Answers.{refused-apart, served-apart}
 use Rattle.refusals.proofs.Places.{test-served, test-serves}
@@ -64,21 +63,21 @@ module _ (b : Board) where
 
   -- ---- What is told names the verdict
 
-  told-refused : (r : Refusal) (v : Verdict) → counted_told (count_by b v) ≡ refused r → v ≡ Refused r
+  told-refused : (r : Refusal) (v : Verdict) → counted_told (count_by b v) ≡ refused r → v ≡ Err r
   unfolding count_by
-  told-refused r Served e = served-apart _ r _ _ e
-  told-refused r (Refused s) e = ap Refused (refused-apart s r e)
+  told-refused r (Ok tt) e = served-apart _ r _ _ e
+  told-refused r (Err s) e = ap Err (refused-apart s r e)
 
-  told-served : (w : ℕ) (v : Verdict) → counted_told (count_by b v) ≡ served w → (v ≡ Served) × (w ≡ count_on b)
+  told-served : (w : ℕ) (v : Verdict) → counted_told (count_by b v) ≡ served w → (v ≡ Ok tt) × (w ≡ count_on b)
   unfolding count_by
-  told-served w Served e = (refl, sym (ap (λ (t : Told). t.value) e))
-  told-served w (Refused s) e = served-apart w s _ _ (sym e)
+  told-served w (Ok tt) e = (refl, sym (ap (λ (t : Told). t.value) e))
+  told-served w (Err s) e = served-apart w s _ _ (sym e)
 
-  serving : (v : Verdict) → v ≡ Served → counted_told (count_by b v) ≡ served (count_on b)
+  serving : (v : Verdict) → v ≡ Ok tt → counted_told (count_by b v) ≡ served (count_on b)
   unfolding count_by
   serving v e = rw e
 
-  refusing : (r : Refusal) (v : Verdict) → v ≡ Refused r → counted_told (count_by b v) ≡ refused r
+  refusing : (r : Refusal) (v : Verdict) → v ≡ Err r → counted_told (count_by b v) ≡ refused r
   unfolding count_by
   refusing r v e = rw e
 
@@ -93,7 +92,7 @@ pub count_order : CountOrder
 count_order b = refl
 
 -- Neither is over 6: the last check is passed
-few-served : (n p : ℕ) → n ≤ max_counted → p ≤ max_counted → first_of (check_for Large (large_test n p) ∷ []) ≡ Served
+few-served : (n p : ℕ) → n ≤ max_counted → p ≤ max_counted → first_of (check_for Large (large_test n p) ∷ []) ≡ Ok tt
 few-served n p l m = last-served Large (large_test n p) (sym (false-is (large_test n p) (large-decides n p) (λ f. f (l, m))))
 
 pub count-takes : CountTakes

@@ -1,6 +1,7 @@
 -- The call's outcome, as the code comes to it.
-use mathlib.Core.Path.{◌≡◌, sym, ap, ◌∙◌}
-use mathlib.Core.Bool.{Bool, true, false, cond}
+use Rattle.std.specs.Prelude.{Ok}
+use mathlib.Core.Path.{◌≡◌, ap, ◌∙◌}
+use mathlib.Core.Bool.{Bool, false, cond}
 use mathlib.Core.List.{List, [], ◌∷◌}
 use Prim.Native.Nat.{ℕ, ◌≤◌, ◌<◌}
 use native.Mathlib.Omega.{arith}
@@ -9,67 +10,26 @@ use Rattle.duality.specs.Lists.{cells}
 use Rattle.duality.proofs.Sums.{sum_to-le}
 use Rattle.places.proofs.Counts.{sum_to-const}
 use Rattle.refusals.specs.declared.Refusal.{Refusal}
-use Rattle.refusals.specs.declared.Refusal.TheVariants.{Spoilt, Large}
-use Rattle.refusals.specs.declared.Verdict.TheVariants.{Served, Refused}
-use Rattle.refusals.specs.Demand1.{Check, check_for, first_of}
-use Rattle.board.specs.declared.units.Pence.{Pence}
-use Rattle.board.specs.Cells.{pence}
+use Rattle.refusals.specs.Demand1.{check_for, first_of}
 use Rattle.board.proofs.Light.{live-within}
 use Rattle.supply.specs.declared.record.Board.{Board}
 use Rattle.supply.specs.Board.{auction_of, places_at, all_places, start_in}
 use Rattle.supply.specs.ByItem.{live}
 use Rattle.supply.specs.Sound.{Sound}
-use Rattle.supply.specs.SoundTest.{sound_test}
-use Rattle.supply.proofs.SoundLaw.{sound-decides}
 use Rattle.supply.proofs.ByItem.{sound-over-places}
-use Rattle.counting.specs.declared.Counted.{Counted}
 use Rattle.counting.specs.Count.{count_with}
 use Rattle.counting.specs.Limits.{max_counted}
 use Rattle.counting.specs.Rows.{rows_at, Countable, RowsOf, FreeOf}
-use Rattle.counting.specs.Call.{large_test, count_on, count_by, count_of}
+use Rattle.counting.specs.Call.{count_on}
 use Rattle.counting.proofs.Turns.{count-as}
 
 -- There are no more items than places
 pub items-few : (b : Board) → Sound b → b.items.count ≤ all_places b.items
 items-few b s = omega (arith, sum_to-const b.items.count 1, sum_to-le b.items.count (λ k. 1) (places_at b) (sound-over-places b s).some)
 
--- The last check alone
-abbrev pub large_check : Board → List Check
-large_check b = check_for Large (large_test b.market.arrived (all_places b.items)) ∷ []
-
-last-refused : (r : Refusal) (t : Bool) → t ≡ true → first_of (check_for r t ∷ []) ≡ Refused r
-unfolding first_of
-last-refused r t e = rw e
-
-pub last-served : (r : Refusal) (t : Bool) → t ≡ false → first_of (check_for r t ∷ []) ≡ Served
+pub last-served : (r : Refusal) (t : Bool) → t ≡ false → first_of (check_for r t ∷ []) ≡ Ok tt
 unfolding first_of
 last-served r t e = rw e
-
-module _ (b : Board) where
-  pub count-spoilt : sound_test b ≡ false → Counted.Refused Spoilt ≡ count_of b
-  unfolding count_of count_by first_of
-  count-spoilt e = rw e
-
-  -- A sound board: 17 alone decides
-  pub count-sound : sound_test b ≡ true → count_by b (first_of (large_check b)) ≡ count_of b
-  unfolding count_of first_of
-  count-sound e = rw e
-
-  module _ (sound : sound_test b ≡ true) where
-    -- The code compares the number of places that the board keeps, which is that of all
-    with_all : {t : Bool} → large_test b.market.arrived b.market.items ≡ t → large_test b.market.arrived (all_places b.items) ≡ t
-    with_all e = rw ((sound-decides b).sound sound).laid.all at e
-
-    pub count-large : large_test b.market.arrived b.market.items ≡ true → Counted.Refused Large ≡ count_of b
-    unfolding count_by
-    count-large e = sym (ap (count_by b) (last-refused Large (large_test b.market.arrived (all_places b.items)) (with_all e))) ∙ count-sound sound
-
-    pub count-served : {weight : Pence} → large_test b.market.arrived b.market.items ≡ false → weight.0 ≡ count_on b → Counted.Weight weight ≡ count_of b
-    unfolding count_by
-    count-served {weight} e h =
-        ap (λ w. Counted.Weight (pence w)) h
-        ∙ sym (ap (count_by b) (last-served Large (large_test b.market.arrived (all_places b.items)) (with_all e)))
-        ∙ count-sound sound
 
 -- ---- What the count is lent says what the board says
 

@@ -13,7 +13,6 @@ use Rattle.duality.specs.Lists.{cells}
 use Rattle.duality.specs.Greatest.{greatest_of}
 use Rattle.duality.proofs.Sums.{upd_same, upd_other, upd-all}
 use Rattle.board.specs.Limits.{max_weight}
-use Rattle.board.specs.declared.units.Pence.{Pence}
 use Rattle.counting.specs.Count.{if_free, count_with}
 use Rattle.counting.specs.Limits.{max_counted}
 use Rattle.counting.specs.Rows.{rows_at, Countable}
@@ -45,12 +44,11 @@ count-as (suc n) m f g v w hf hw =
 
 -- ---- A loop over the items has come to item k + 1
 
-pub record Tried (left items : ℕ) (rows free : List ℕ) (best : Pence) (k : ℕ) : Type 0 where
+pub record Tried (left items : ℕ) (rows free : List ℕ) (best : ℕ) (k : ℕ) : Type 0 where
   pub some : 0 < left
-  pub among : k ≤ items
-  pub greatest : best.0 ≡
+  pub greatest : best ≡
       greatest_of (count_with (left - 1) items (cells free) (λ i. rows_at rows (suc i))) k (trying (left - 1) items (cells free) (rows_at rows))
-  pub most : best.0 ≤ left * max_weight
+  pub most : best ≤ left * max_weight
 
 -- ---- The rows of the rest
 
@@ -83,29 +81,28 @@ rest-counts n items rows free =
 
 module _ {left items : ℕ} {rows free : List ℕ} where
   -- None
-  pub tried-none : {best : Pence} → 0 < left → (best.0 ≡ count_with (left - 1) items (cells free) (rows_at (rest_of rows))) × (best.0 ≤ (left - 1) * max_weight) →
+  pub tried-none : {best : ℕ} → 0 < left → best ≡ count_with (left - 1) items (cells free) (rows_at (rest_of rows)) → best ≤ (left - 1) * max_weight →
       Tried left items rows free best 0
-  tried-none some (e, most) = record { some = some; among = omega arith; greatest = e ∙ rest-counts (left - 1) items rows free; most = omega arith }
+  tried-none some e most = record { some = some; greatest = e ∙ rest-counts (left - 1) items rows free; most = omega arith }
 
-  module _ {best : Pence} {k : ℕ} (t : Tried left items rows free best k) (l : k < items) where
+  module _ {best : ℕ} {k : ℕ} (t : Tried left items rows free best k) (l : k < items) where
     -- Item k + 1, of which no place is free
     pub tried-full : get_or free k 0 ≡ 0 → Tried left items rows free best (k + 1)
     tried-full e =
         let f : trying (left - 1) items (cells free) (rows_at rows) k ≡ 0 = ap (λ n. if_free n (rows_at rows 0 k + count_with (left - 1) items (upd k (cells free k - 1) (cells free)) (λ i. rows_at rows (suc i)))) e in
-        record { some = t.some; among = omega (arith, t.among); greatest = rw add-one (omega (arith, t.greatest, f)); most = t.most }
+        record { some = t.some; greatest = rw add-one (omega (arith, t.greatest, f)); most = t.most }
 
     -- Item k + 1, of which one is
-    pub tried-free : {weight next : Pence} → Countable left items rows → length free ≡ max_counted → 0 < get_or free k 0 →
-        (weight.0 ≡ count_with (left - 1) items (cells (set free k (get_or free k 0 - 1))) (rows_at (rest_of rows))) × (weight.0 ≤ (left - 1) * max_weight) →
-        next.0 ≡ max best.0 (get_or rows k 0 + weight.0) → Tried left items rows free next (k + 1)
-    tried-free {weight} {next} h size some (e, most) g =
-        let x : weight.0 ≡ count_with (left - 1) items (upd k (cells free k - 1) (cells free)) (λ i. rows_at rows (suc i)) = e ∙ rest-counts (left - 1) items rows (set free k (cells free k - 1)) ∙ fewer in
-        let f : trying (left - 1) items (cells free) (rows_at rows) k ≡ rows_at rows 0 k + weight.0 = tried (cells free k) _ some ∙ ap (λ y. rows_at rows 0 k + y) (sym x) in
+    pub tried-free : {weight next : ℕ} → Countable left items rows → length free ≡ max_counted → 0 < get_or free k 0 →
+        weight ≡ count_with (left - 1) items (cells (set free k (get_or free k 0 - 1))) (rows_at (rest_of rows)) → weight ≤ (left - 1) * max_weight →
+        next ≡ max best (get_or rows k 0 + weight) → Tried left items rows free next (k + 1)
+    tried-free {weight} {next} h size some e most g =
+        let x : weight ≡ count_with (left - 1) items (upd k (cells free k - 1) (cells free)) (λ i. rows_at rows (suc i)) = e ∙ rest-counts (left - 1) items rows (set free k (cells free k - 1)) ∙ fewer in
+        let f : trying (left - 1) items (cells free) (rows_at rows) k ≡ rows_at rows 0 k + weight = tried (cells free k) _ some ∙ ap (λ y. rows_at rows 0 k + y) (sym x) in
         let z : 0 * max_counted + k ≡ k = omega arith in
         let first : rows_at rows 0 k ≡ get_or rows k 0 = ap (λ c. get_or rows c 0) z in
         record {
           some = t.some;
-          among = omega arith;
           greatest = rw add-one (omega (arith, t.greatest, f, first, g));
           most = omega (arith, t.most, t.some, first, g, h.light 0 k t.some l);
         }
@@ -117,22 +114,3 @@ module _ {left items : ℕ} {rows free : List ℕ} where
             (λ j lj. upd-all (λ j v. cells (set free k (cells free k - 1)) j ≡ v) k (cells free k - 1) (cells free)
             (get_or-set_same free k (cells free k - 1) 0 (omega (arith, h.items))) (λ j ne. get_or-set_other free k j (cells free k - 1) 0 ne) j)
             (λ i k li lk. refl)
-
-  -- All of them
-  pub tried-all : {best : Pence} {k : ℕ} → Tried left items rows free best k → items ≤ k →
-      (best.0 ≡ count_with left items (cells free) (rows_at rows)) × (best.0 ≤ left * max_weight)
-  tried-all {best} {k} t l =
-      let e : k ≡ items = omega (arith, t.among) in
-      let s : suc (left - 1) ≡ left = omega (arith, t.some) in
-      ((rw e at t.greatest) ∙ ap (λ n. count_with n items (cells free) (rows_at rows)) s, t.most)
-
--- Nobody is left
-pub counted_none : (left items : ℕ) (free : ℕ → ℕ) (w : ℕ → ℕ → ℕ) → left ≡ 0 → 0 ≡ count_with left items free w
-counted_none left items free w e = rw e refl
-
--- An edge and the rest's weight fit one number
-pub sum_fits : {left items : ℕ} {rows : List ℕ} (k weight : ℕ) → Countable left items rows → 0 < left → k < items → weight ≤ (left - 1) * max_weight →
-    get_or rows k 0 + weight ≤ left * max_weight
-sum_fits {left} {items} {rows} k weight h some l most =
-    let z : 0 * max_counted + k ≡ k = omega arith in
-    omega (arith, ap (λ c. get_or rows c 0) z, h.light 0 k some l)

@@ -8,8 +8,8 @@ use Rattle.supply.specs.Board.{all_places}
 use Rattle.supply.specs.Sound.{Sound}
 use Rattle.counting.specs.Call.{CountMet, counting_checks, count_on, count_of, counted_told}
 
--- "If a call meets a condition in the table of refusals, it gives that number by the stated order of checks .. otherwise it is served". The board is taken
--- by value, so that the caller's is as it was
+-- "If a call meets a condition in the table of refusals, it gives that number by the stated order of checks .. otherwise it is served". The board is
+-- only read, so that the caller's is as it was
 abbrev pub CountDemand1 : Type 0
 CountDemand1 =
     (b : Board) →

@@ -5,51 +5,41 @@ mod limits;
 mod rows; // live edges and free places, as the count is lent them
 mod trying; // the count itself
 
-ghost use Rattle.std.specs.Prelude.{◌≡◌};
+ghost use Rattle.std.specs.Prelude.{◌≡◌, false, ◌≤◌};
+ghost use Rattle.counting.specs.Limits.{max_counted};
 ghost use Rattle.counting.specs.Call.{large_test, count_of};
 
 use crate::limits::COUNTED;
 use crate::rows::{free_of, rows_of};
 use crate::trying::greatest_weight;
 use board::units::Pence;
+use matching::live::LiveSheet;
 use refusals::Refusal;
 use supply::record::Board;
-use supply::shape::starts_of;
-use supply::sound::is_sound_in;
-
-// What the count answers: the greatest weight of a plan on the live edges, or a refusal.
-#[derive(Clone, Copy)]
-pub enum Counted {
-    Weight(Pence),
-    Refused(Refusal),
-}
 
 // Over 6 bidders, or over 6 places.
+#[tactic(auto, unfolding(crate::specs::Call::large_test))]
 fn is_large(bidders: u64, places: u64) -> bool
-    ensures { result ≡ large_test bidders places }
+    ensures test { result ≡ large_test bidders places }
+    ensures bidders { result ≡ false → bidders ≤ max_counted }
+    ensures places { result ≡ false → places ≤ max_counted }
 {
-    if bidders > COUNTED as u64 {
-        return true;
-    }
-    places > COUNTED as u64
+    bidders > COUNTED as u64 || places > COUNTED as u64
 }
 
-// Counts the greatest weight of a plan on a board's live edges.
-pub fn count(board: Board) -> Counted
-    ensures { result ≡ count_of board }
+/// Counts the greatest weight of a plan on a board's live edges.
+#[tactic(auto, unfolding(crate::specs::Call::count_of, crate::specs::Call::count_by, refusals::specs::Demand1::first_of))]
+pub fn count(board: &Board) -> Result<Pence, Refusal>
+    ensures { result ≡ count_of board.now }
 {
-    let items = board.items;
-    let market = board.market;
-    let state = board.state;
-    if !is_sound_in(items, market, &board.weights, state) {
-        return Counted::Refused(Refusal::Spoilt);
+    if !board.is_sound() {
+        return Err(Refusal::Spoilt);
     }
-    if is_large(market.arrived, market.items) {
-        return Counted::Refused(Refusal::Large);
+    let bidders = board.market.arrived;
+    if is_large(bidders, board.market.items) {
+        return Err(Refusal::Large);
     }
-    let starts = starts_of(items);
-    let rows = rows_of(items, &starts, &board.weights, &market.withdrawn);
-    let free = free_of(items);
-    let weight = greatest_weight(market.arrived as usize, items.count as usize, &rows, free);
-    Counted::Weight(weight)
+    let rows = rows_of(&LiveSheet::of(board));
+    let free = free_of(&board.items);
+    Ok(greatest_weight(bidders as usize, board.items.count as usize, &rows, free))
 }

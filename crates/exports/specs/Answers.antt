@@ -2,19 +2,15 @@
 use Rattle.std.specs.Prelude.{◌≡◌, List, ℕ}
 use Rattle.supply.specs.declared.record.Board.{Board}
 use Rattle.refusals.specs.declared.Told.{Told}
-use Rattle.supply.specs.declared.opening.Opening.{Opening}
-use Rattle.auction.specs.declared.arrive.Arrival.{Arrival}
-use Rattle.auction.specs.declared.withdraw.Withdrawal.{Withdrawal}
 use Rattle.replay.specs.declared.Replayed.{Replayed}
 use Rattle.bidding.specs.Rule.{Outcome, done, spent}
 use Rattle.board.specs.Lent.{Lists}
-use Rattle.supply.specs.Opening.{opened_told}
-use Rattle.auction.specs.Arrive.{arrived_told}
-use Rattle.auction.specs.Withdraw.{withdrawn_told}
+use Rattle.supply.specs.Opening.{Opening, opened_told}
+use Rattle.auction.specs.Arrive.{Arrival, arrived_told}
+use Rattle.auction.specs.Withdraw.{Withdrawal, withdrawn_told}
 use Rattle.auction.specs.ReadOut.{ReadOutcome, read_out_told}
 use Rattle.replay.specs.TextDemand1.{ending_told}
-use Rattle.hungarian.specs.declared.exact.Greatest.{Greatest}
-use Rattle.hungarian.specs.Exact.{exact_told, ExactOutcome}
+use Rattle.hungarian.specs.Exact.{Greatest, exact_told, ExactOutcome}
 use Rattle.history.specs.Plan.{PlanOutcome}
 use Rattle.history.specs.Demand1.{planned_told}
 use Rattle.layout.specs.Stored.{RowLists}

@@ -1,9 +1,10 @@
-// What a call answers, in numbers: enums do not cross to another language. Each function here is one call's answer, told so.
+// What a call answers, in numbers: enums do not cross to another language. Each function here tells an answer so. They are functions, and no `From`:
+// a result and `Told` are types of other crates, and one form serves all answers.
 ghost use Rattle.std.specs.Prelude.{◌≡◌};
 ghost use Rattle.refusals.specs.Told.{served, refused, refused_at};
-ghost use Rattle.supply.specs.Opening.{opened_told};
-ghost use Rattle.auction.specs.Arrive.{arrived_told};
-ghost use Rattle.auction.specs.Withdraw.{withdrawn_told};
+ghost use Rattle.supply.specs.Opening.{answered};
+ghost use Rattle.auction.specs.Arrive.{arrival, arrived_told};
+ghost use Rattle.auction.specs.Withdraw.{withdrawal, withdrawn_told};
 ghost use Rattle.auction.specs.ReadOut.{read_out_told};
 ghost use Rattle.hungarian.specs.Exact.{exact_told};
 ghost use Rattle.certificate.specs.Check.{checked_told};
@@ -15,20 +16,13 @@ ghost use Rattle.page.specs.Writing.{written_told};
 ghost use Rattle.page.specs.Reading.{read_told};
 ghost use Rattle.exports.specs.Answers.{with_board, open_answer, arrival_answer, withdrawal_answer, replay_answer};
 
-use auction::arrive::{Arrival, Arrived};
-use auction::read_out::ReadOut;
-use auction::withdraw::{Withdrawal, Withdrawn};
-use certificate::{Checked, Totals};
-use comparison::order::Ordering;
-use comparison::{Compared, Comparison};
-use counting::Counted;
-use history::planning::Planned;
-use hungarian::exact::Greatest;
-use page::reading::PageRead;
-use page::writing::PageWritten;
-use refusals::{Refusal, Told};
-use replay::{Ending, Replayed};
-use supply::opening::{Opened, Opening};
+use board::units::{Pence, Scaled};
+use certificate::Totals;
+use comparison::Comparison;
+use refusals::{AtLine, Refusal, Told};
+use replay::Replayed;
+use std::cmp::Ordering;
+use supply::opening::empty_board;
 use supply::record::Board;
 
 // What a call answers in numbers, beside a board.
@@ -53,12 +47,12 @@ fn serving(value: u64) -> Told
 }
 
 // A text refused at a line: the place is the line.
-fn stopping(refusal: Refusal, line: u64, value: u64) -> Told
-    ensures { result ≡ refused_at refusal line value }
+fn stopping(stop: AtLine, value: u64) -> Told
+    ensures { result ≡ refused_at stop.refusal stop.line value }
 {
     Told {
-        number: refusal.number(),
-        place: line,
+        number: stop.refusal.number(),
+        place: stop.line,
         value,
     }
 }
@@ -67,7 +61,11 @@ fn stopping(refusal: Refusal, line: u64, value: u64) -> Told
 fn refusing(refusal: Refusal) -> Told
     ensures { result ≡ refused refusal }
 {
-    stopping(refusal, refusal.place(), 0)
+    Told {
+        number: refusal.number(),
+        place: refusal.place(),
+        value: 0,
+    }
 }
 
 // What is told, beside a board.
@@ -82,102 +80,71 @@ fn beside(board: Board, told: Told) -> Answer
     }
 }
 
-fn opened_told(answer: Opened) -> Told
-    ensures { result ≡ opened_told answer }
+// An opened board. Beside a refusal stands a board that is all 0.
+pub(crate) fn open_answer(opened: Result<Board, Refusal>) -> Answer
+    ensures { result ≡ open_answer (answered opened) }
 {
-    match answer {
-        Opened::Ready => serving(0),
-        Opened::Refused(refusal) => refusing(refusal),
+    match opened {
+        Ok(board) => beside(board, serving(0)),
+        Err(refusal) => beside(empty_board(0, 0, &[]), refusing(refusal)),
     }
 }
 
-// An opened board.
-pub(crate) fn open_answer(opening: Opening) -> Answer
-    ensures { result ≡ open_answer opening }
-{
-    let board = opening.board;
-    let answer = opening.answer;
-    beside(board, opened_told(answer))
-}
-
-fn arrived_told(answer: Arrived) -> Told
-    ensures { result ≡ arrived_told answer }
+// A number: of bids, of bytes or of rows. A read-out and a weight are told by functions of their own below: one for all three would need a trait that says
+// what each value is told as, which is longer than they are.
+pub(crate) fn number_told(answer: Result<u64, Refusal>) -> Told
+    ensures arrived { result ≡ arrived_told answer }
+    ensures withdrawn { result ≡ withdrawn_told answer }
+    ensures written { result ≡ written_told answer }
+    ensures read { result ≡ read_told answer }
 {
     match answer {
-        Arrived::Bids(bids) => serving(bids),
-        Arrived::Refused(refusal) => refusing(refusal),
+        Ok(number) => serving(number),
+        Err(refusal) => refusing(refusal),
     }
 }
 
-// A board after an arrival.
-pub(crate) fn arrival_answer(arrival: Arrival) -> Answer
-    ensures { result ≡ arrival_answer arrival }
+// A board after an arrival or a withdrawal.
+pub(crate) fn bids_answer(board: Board, bids: Result<u64, Refusal>) -> Answer
+    ensures arrival { result ≡ arrival_answer (arrival board bids) }
+    ensures withdrawal { result ≡ withdrawal_answer (withdrawal board bids) }
 {
-    let board = arrival.board;
-    let answer = arrival.answer;
-    beside(board, arrived_told(answer))
-}
-
-fn withdrawn_told(answer: Withdrawn) -> Told
-    ensures { result ≡ withdrawn_told answer }
-{
-    match answer {
-        Withdrawn::Bids(bids) => serving(bids),
-        Withdrawn::Refused(refusal) => refusing(refusal),
-    }
-}
-
-// A board after a withdrawal.
-pub(crate) fn withdrawal_answer(withdrawal: Withdrawal) -> Answer
-    ensures { result ≡ withdrawal_answer withdrawal }
-{
-    let board = withdrawal.board;
-    let answer = withdrawal.answer;
-    beside(board, withdrawn_told(answer))
+    beside(board, number_told(bids))
 }
 
 // A read-out.
-pub(crate) fn read_out_told(answer: ReadOut) -> Told
+pub(crate) fn read_out_told(answer: Result<(), Refusal>) -> Told
     ensures { result ≡ read_out_told answer }
 {
     match answer {
-        ReadOut::Written => serving(0),
-        ReadOut::Refused(refusal) => refusing(refusal),
+        Ok(()) => serving(0),
+        Err(refusal) => refusing(refusal),
     }
 }
 
-// What the exact level answers.
-pub(crate) fn exact_told(answer: Greatest) -> Told
-    ensures { result ≡ exact_told answer }
+// A weight: what the exact level and the slow count answer.
+pub(crate) fn weight_told(answer: Result<Pence, Refusal>) -> Told
+    ensures exact { result ≡ exact_told answer }
+    ensures counted { result ≡ counted_told answer }
 {
     match answer {
-        Greatest::Weight(weight) => serving(weight.0),
-        Greatest::Refused(refusal) => refusing(refusal),
-    }
-}
-
-// What the slow count answers.
-pub(crate) fn counted_told(answer: Counted) -> Told
-    ensures { result ≡ counted_told answer }
-{
-    match answer {
-        Counted::Weight(weight) => serving(weight.0),
-        Counted::Refused(refusal) => refusing(refusal),
+        Ok(weight) => serving(weight.0),
+        Err(refusal) => refusing(refusal),
     }
 }
 
 // What the check answers.
-pub(crate) fn totals_of(answer: Checked) -> Totals
+pub(crate) fn totals_of(answer: Result<(Pence, Scaled), Refusal>) -> Totals
     ensures { result ≡ checked_told answer }
 {
     match answer {
-        Checked::Totals(weight, sum) => Totals {
+        Ok((weight, sum)) => Totals {
             number: 0,
             place: 0,
             weight: weight.0,
             total: sum.0,
         },
-        Checked::Refused(refusal) => {
+        Err(refusal) => {
             let refused = refusing(refusal);
             Totals {
                 number: refused.number,
@@ -189,29 +156,29 @@ pub(crate) fn totals_of(answer: Checked) -> Totals
     }
 }
 
-// Where a plan stands: 1, 2 or 3.
+// Where a plan stands, for C: 1, 2 or 3.
 fn order_number(order: Ordering) -> u64
     ensures { result ≡ order_number order }
 {
     match order {
-        Ordering::Earlier => 1,
-        Ordering::Same => 2,
-        Ordering::Later => 3,
+        Ordering::Less => 1,
+        Ordering::Equal => 2,
+        Ordering::Greater => 3,
     }
 }
 
 // What the comparison answers.
-pub(crate) fn comparison_of(answer: Compared) -> Comparison
+pub(crate) fn comparison_of(answer: Result<(i64, Ordering), Refusal>) -> Comparison
     ensures { result ≡ compared_told answer }
 {
     match answer {
-        Compared::Plans(difference, order) => Comparison {
+        Ok((difference, order)) => Comparison {
             number: 0,
             place: 0,
             difference,
             order: order_number(order),
         },
-        Compared::Refused(refusal) => {
+        Err(refusal) => {
             let refused = refusing(refusal);
             Comparison {
                 number: refused.number,
@@ -223,12 +190,13 @@ pub(crate) fn comparison_of(answer: Compared) -> Comparison
     }
 }
 
-fn ending_told(answer: Ending, bids: u64) -> Told
+// How a replay ended, and the bids so far.
+fn ending_told(answer: Result<(), AtLine>, bids: u64) -> Told
     ensures { result ≡ ending_told answer bids }
 {
     match answer {
-        Ending::Finished => serving(bids),
-        Ending::Stopped(refusal, line) => stopping(refusal, line, bids),
+        Ok(()) => serving(bids),
+        Err(stop) => stopping(stop, bids),
     }
 }
 
@@ -236,37 +204,15 @@ fn ending_told(answer: Ending, bids: u64) -> Told
 pub(crate) fn replay_answer(replayed: Replayed) -> Answer
     ensures { result ≡ replay_answer replayed }
 {
-    let board = replayed.board;
-    let answer = replayed.answer;
-    beside(board, ending_told(answer, replayed.bids))
+    beside(replayed.board, ending_told(replayed.answer, replayed.bids))
 }
 
 // A written text.
-pub(crate) fn planned_told(answer: Planned) -> Told
+pub(crate) fn planned_told(answer: Result<u64, AtLine>) -> Told
     ensures { result ≡ planned_told answer }
 {
     match answer {
-        Planned::Written(bytes) => serving(bytes),
-        Planned::Refused(refusal, line) => stopping(refusal, line, 0),
-    }
-}
-
-// A written page.
-pub(crate) fn page_written_told(answer: PageWritten) -> Told
-    ensures { result ≡ written_told answer }
-{
-    match answer {
-        PageWritten::Bytes(bytes) => serving(bytes),
-        PageWritten::Refused(refusal) => refusing(refusal),
-    }
-}
-
-// A page that was read.
-pub(crate) fn page_read_told(answer: PageRead) -> Told
-    ensures { result ≡ read_told answer }
-{
-    match answer {
-        PageRead::Rows(rows) => serving(rows),
-        PageRead::Refused(refusal) => refusing(refusal),
+        Ok(bytes) => serving(bytes),
+        Err(stop) => stopping(stop, 0),
     }
 }

@@ -7,7 +7,7 @@ ghost use Rattle.history.specs.Plan.{fitted};
 ghost use Rattle.history.specs.Wall.{wall_of};
 ghost use Rattle.exports.specs.Answers.{told_bytes, plan_answer, write_answer, told_rows, read_answer};
 
-use crate::answers::{page_read_told, page_written_told, planned_told};
+use crate::answers::{number_told, planned_told};
 use history::wall::page_text;
 use page::reading::read_page;
 use page::writing::write_page;
@@ -19,8 +19,7 @@ use supply::record::Board;
 pub extern "C" fn noughtelm_write_page(board: Board, page: &mut [u8]) -> Told
     ensures { told_bytes result page.new ≡ write_answer (write_page_of board page.old) }
 {
-    let written = write_page(board, page);
-    page_written_told(written)
+    number_told(write_page(&board, page))
 }
 
 // Reads a page into three lent lists. The value is the number of bidders.
@@ -33,8 +32,7 @@ pub extern "C" fn noughtelm_read_page(
 ) -> Told
     ensures { told_rows result (row_lists plan.new weights.new gains.new) ≡ read_answer (read_page_of text.now (row_lists plan.old weights.old gains.old)) }
 {
-    let read = read_page(text, plan, weights, gains);
-    page_read_told(read)
+    number_told(read_page(text, plan, weights, gains))
 }
 
 // Replays a text and writes the page of its board, or its refusal. The value is the number of bytes.

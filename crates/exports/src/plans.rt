@@ -6,7 +6,7 @@ ghost use Rattle.comparison.specs.Compare.{compare_of, compared_told};
 ghost use Rattle.counting.specs.Call.{count_of, counted_told};
 ghost use Rattle.exports.specs.Answers.{ExactAnswer};
 
-use crate::answers::{comparison_of, counted_told, exact_told, totals_of};
+use crate::answers::{comparison_of, totals_of, weight_told};
 use certificate::{Totals, check};
 use comparison::{Comparison, compare};
 use counting::count;
@@ -24,8 +24,7 @@ pub extern "C" fn noughtelm_exact(
 ) -> Told
     ensures { ExactAnswer board (lists plan.old prices.old gains.old) result (lists plan.new prices.new gains.new) }
 {
-    let answer = exact(board, plan, prices, gains);
-    exact_told(answer)
+    weight_told(exact(&board, plan, prices, gains))
 }
 
 // Counts the greatest weight of a plan, of few bidders and places. The value is that weight.
@@ -33,8 +32,7 @@ pub extern "C" fn noughtelm_exact(
 pub extern "C" fn noughtelm_count(board: Board) -> Told
     ensures { result ≡ counted_told (count_of board) }
 {
-    let answer = count(board);
-    counted_told(answer)
+    weight_told(count(&board))
 }
 
 // Checks a matching, prices and gains against a board's live edges at a slack p/q.
@@ -49,8 +47,7 @@ pub extern "C" fn noughtelm_check(
 ) -> Totals
     ensures { result ≡ checked_told (check_of board (lists plan.now prices.now gains.now) p q) }
 {
-    let answer = check(board, plan, prices, gains, p, q);
-    totals_of(answer)
+    totals_of(check(&board, plan, prices, gains, p, q))
 }
 
 // Compares two plans on a board's live edges.
@@ -58,6 +55,5 @@ pub extern "C" fn noughtelm_check(
 pub extern "C" fn noughtelm_compare(board: Board, first: &[u64], second: &[u64]) -> Comparison
     ensures { result ≡ compared_told (compare_of board first.now second.now) }
 {
-    let answer = compare(board, first, second);
-    comparison_of(answer)
+    comparison_of(compare(&board, first, second))
 }

@@ -1,9 +1,11 @@
 -- What the check says of the lists that the exact level and the read-out leave.
+use Rattle.std.specs.Prelude.{Ok}
+use mathlib.Core.Bool.{true}
 use mathlib.Core.Path.{◌≡◌, refl, sym, ap, ap₂, ◌∙◌}
 use Prim.Native.Nat.{ℕ, ◌+◌, ◌-◌, ◌*◌, ◌≤◌, ◌<◌}
 use native.Mathlib.Nat.{le_trans}
 use native.Mathlib.Omega.{arith}
-use lib.ListN.{take}
+use lib.ListN.{length, take}
 use lib.Seq.{length-take-le}
 use Rattle.duality.specs.Lists.{cells}
 use Rattle.duality.specs.Matching.{weight_of}
@@ -19,16 +21,19 @@ use Rattle.places.proofs.SpreadCover.{cover-spreads, least-prices-cover, total-o
 use Rattle.places.proofs.EqualExactlyWhenBestWith.{plan-as, total-with-as, total-with-lists}
 use Rattle.board.specs.Limits.{max_weight}
 use Rattle.board.specs.Cells as place
-use Rattle.board.specs.Lent.{Lists}
+use Rattle.refusals.specs.Demand1.{first_of}
+use Rattle.board.specs.Lent.{Lists, room_test}
 use Rattle.board.proofs.Light.{live-within}
 use Rattle.supply.specs.declared.record.Board.{Board}
 use Rattle.supply.specs.Board.{auction_of, places_at, start_in, item_at}
 use Rattle.supply.specs.ByItem.{live, gain_at, price_at, matching_of, matching_weight}
 use Rattle.supply.specs.Laws.{OverPlaces}
 use Rattle.supply.specs.Sound.{Sound}
+use Rattle.supply.specs.SoundTest.{sound_test}
+use Rattle.supply.specs.Lent.{read_out_checks}
 use Rattle.supply.proofs.SoundLaw.{sound-decides}
 use Rattle.supply.proofs.ByItem.{places-as-item, first-place, price-most, gone-least, sound-over-places}
-use Rattle.supply.proofs.Lending.{lent-served, roomy-decides}
+use Rattle.supply.proofs.Lending.{roomy-decides}
 use Rattle.bidding.specs.Waiting.{SoundBut, Nobody}
 use Rattle.bidding.proofs.Waiting.{sound-is-settled}
 use Rattle.bidding.proofs.Modest.{price-modest, gain-modest}
@@ -36,8 +41,7 @@ use Rattle.auction.specs.ReadOut.{ReadOutcome, read_out_of, read_out_told}
 use Rattle.auction.specs.Demand2.{Reads}
 use Rattle.auction.proofs.CallVerdicts.{read-out-written}
 use Rattle.auction.proofs.ReadOuts.{read-out-demand-2}
-use Rattle.hungarian.specs.declared.exact.Greatest.{Greatest}
-use Rattle.hungarian.specs.Exact.{Shows}
+use Rattle.hungarian.specs.Exact.{Greatest, Shows}
 use Rattle.hungarian.specs.Demand3.{ShowsBest}
 use Rattle.hungarian.proofs.Exacts.{best-on, exact-is-best, exact-gives-demand-3}
 use Rattle.certificate.specs.declared.Totals.{Totals}
@@ -121,6 +125,12 @@ equal-totals-best b l weight sum' e =
     let best = best-on b a.sound l.plan l.prices l.gains a.even.plan a.even.prices a.even.gains a.matches a.covers in
     (λ h. best.0 (sym w ∙ h ∙ s ∙ x), λ h. w ∙ best.1 h ∙ sym x ∙ sym s)
 
+-- Lists with room, lent to a sound board, are served
+lent-served : (b : Board) (l : Lists) → sound_test b ≡ true → room_test b.market.arrived b.items.count (length l.plan) (length l.prices) (length l.gains) ≡ true →
+    first_of (read_out_checks b l) ≡ Ok tt
+unfolding first_of
+lent-served b l s e = rw (s, e)
+
 pub read-out-accepted : ReadOutAccepted
 read-out-accepted b l s room =
     record {
@@ -157,7 +167,7 @@ read-out-accepted b l s room =
 
     reads : Reads b l (read_out_of b l).lists
     reads =
-        let o = read-out-written b l (sym (lent-served b _ _ _ ((sound-decides b).complete s) ((roomy-decides b l).complete room))) in
+        let o = read-out-written b l (lent-served b l ((sound-decides b).complete s) ((roomy-decides b l).complete room)) in
         read-out-demand-2 b l after (record { lists = refl; tells = ap (λ (o : ReadOutcome). read_out_told o.answer) o })
 
     weighs : weight_of b.market.arrived (live b) (cells after.plan) ≡ matching_weight b

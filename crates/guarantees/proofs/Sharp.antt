@@ -1,4 +1,5 @@
 -- A sheet at equality that does not come out exact, by computation: its text is replayed, the test of soundness and all.
+use Rattle.std.specs.Prelude.{Ok}
 use mathlib.Core.Path.{◌≡◌, refl, ◌∙◌}
 use Prim.Native.Nat.{◌+◌, ◌*◌}
 use native.Mathlib.Omega.{arith}
@@ -25,9 +26,7 @@ use Rattle.bidding.specs.Moves.{entered, arrived_of}
 use Rattle.auction.specs.Edges.{order_test, edge_checks, row_to}
 use Rattle.auction.specs.Arrive.{arrival_of, arrive_rest, arrive_by, arrive_of}
 use Rattle.auction.proofs.Histories.{history-demand-2}
-use Rattle.replay.specs.declared.Ending.{Ending}
-use Rattle.replay.specs.Replay.{pairs_of, command_of, finished, after_arrived, after_arrival, carry_out, lines_from}
-use Rattle.replay.specs.Replay.{place_line, place_lines, after_opened, first_line, replay_of}
+use Rattle.replay.specs.Replay.{pairs_of, command_of, finished, after_arrived, after_arrival, carry_out, lines_from, place_line, place_lines, after_opened, first_line, replay_of}
 use Rattle.replay.specs.ReplayLaws.{TextReached}
 use Rattle.hungarian.specs.Exact.{greatest_on}
 use Rattle.history.specs.Output.{bidder_lines, item_lines, output_of}
@@ -67,7 +66,7 @@ small-is-sharp =
     }
   where
     reached : TextReached sharp_text sharp 1
-    reached = text-reached sharp_text (record { board = sharp; answer = Ending.Finished; bids = 1 }) replayed refl
+    reached = text-reached sharp_text (record { board = sharp; answer = Ok tt; bids = 1 }) replayed refl
 
     sound : Sound sharp
     sound = (history-demand-2 sharp reached.entries 1 reached.reached).sound

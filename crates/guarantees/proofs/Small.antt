@@ -1,4 +1,5 @@
 -- Small sheets come out exact: by the share the quick plan is worth less than 1 less than the greatest worth.
+use Rattle.std.specs.Prelude.{Ok}
 use mathlib.Core.Path.{◌≡◌, refl, ap, ◌∙◌}
 use mathlib.Core.List.{◌++◌}
 use mathlib.Core.Logic.{◌↔◌}
@@ -11,7 +12,6 @@ use Rattle.supply.specs.ByItem.{live, withdrawn_at, gain_at, price_at, matching_
 use Rattle.auction.specs.Demand2.{QuickBoard}
 use Rattle.auction.proofs.Demand2.{sound-demand-2}
 use Rattle.auction.proofs.Histories.{history-demand-2}
-use Rattle.replay.specs.declared.Ending.{Ending}
 use Rattle.replay.specs.ReplayLaws.{TextReached}
 use Rattle.replay.proofs.Texts.{finished-text}
 use Rattle.hungarian.specs.Exact.{greatest_on}
@@ -79,4 +79,4 @@ small-printed s b entries bids t small =
     (small-is-exact b sound small).greatest
   where
     reached : TextReached s b bids
-    reached = text-reached s (record { board = b; answer = Ending.Finished; bids = bids }) (finished-text t) refl
+    reached = text-reached s (record { board = b; answer = Ok tt; bids = bids }) (finished-text t) refl

@@ -5,8 +5,7 @@ use Rattle.supply.specs.ByItem.{withdrawn_at, gain_at, price_at, matching_of, ma
 use Rattle.supply.specs.Lent.{Roomy}
 use Rattle.board.specs.Lent.{Lists}
 use Rattle.replay.specs.TextDemand1.{TextFinished}
-use Rattle.hungarian.specs.declared.exact.Greatest.{Greatest}
-use Rattle.hungarian.specs.Exact.{exact_told, ExactOutcome}
+use Rattle.hungarian.specs.Exact.{Greatest, exact_told, ExactOutcome}
 use Rattle.counting.specs.Call.{count_on, count_of, counted_told}
 use Rattle.counting.specs.Demand1.{Takes}
 use Rattle.history.specs.Output.{bidder_lines, item_lines, last_lines, sum_of}

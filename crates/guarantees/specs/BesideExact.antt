@@ -8,8 +8,7 @@ use Rattle.supply.specs.ByItem.{live}
 use Rattle.supply.specs.Sound.{Sound}
 use Rattle.supply.specs.Lent.{Roomy}
 use Rattle.board.specs.Lent.{Lists}
-use Rattle.hungarian.specs.declared.exact.Greatest.{Greatest}
-use Rattle.hungarian.specs.Exact.{greatest_on, ExactOutcome}
+use Rattle.hungarian.specs.Exact.{Greatest, greatest_on, ExactOutcome}
 use Rattle.matching.specs.Plans.{PlanOn, weight_on}
 use Rattle.comparison.specs.Compare.{difference_of}
 use Rattle.comparison.specs.Demand1.{Tells}

@@ -9,8 +9,7 @@ use Rattle.supply.specs.Sound.{Sound}
 use Rattle.supply.specs.Lent.{Roomy}
 use Rattle.board.specs.Lent.{Lists, lists}
 use Rattle.auction.specs.ReadOut.{read_out_of}
-use Rattle.hungarian.specs.declared.exact.Greatest.{Greatest}
-use Rattle.hungarian.specs.Exact.{greatest_on, ExactOutcome}
+use Rattle.hungarian.specs.Exact.{Greatest, greatest_on, ExactOutcome}
 use Rattle.certificate.specs.Check.{check_of, totals, checked_told}
 
 -- Three lists cut to length: a cell for each bidder, item and bidder

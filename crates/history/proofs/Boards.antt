@@ -1,4 +1,5 @@
 -- Laws of the figures of a sound board: how large they are, and how the weight follows from the sum.
+use Rattle.std.specs.Prelude.{Ok, Err}
 use mathlib.Core.Path.{◌≡◌, refl, sym, ◌∙◌, ap, ap₂}
 use mathlib.Core.Bool.{Bool, true, false, cond}
 use mathlib.Core.List.{◌++◌, append_assoc}
@@ -18,8 +19,7 @@ use Rattle.supply.specs.declared.record.Board.{Board}
 use Rattle.board.specs.declared.units.Pence.{Pence}
 use Rattle.board.specs.declared.lent.Columns.{Columns}
 use Rattle.refusals.specs.declared.Refusal.{Refusal}
-use Rattle.hungarian.specs.declared.exact.Greatest.{Greatest}
-use Rattle.hungarian.specs.Exact.{greatest_on, ExactOutcome}
+use Rattle.hungarian.specs.Exact.{Greatest, greatest_on, ExactOutcome}
 use Rattle.hungarian.proofs.Exacts.{exact-is-best, exact-gives-demand-3, exact-told-weight}
 use Rattle.board.specs.Limits.{max_items, max_bidders, max_q, max_weight}
 use Rattle.board.specs.Cells.{pence, row_at}
@@ -110,20 +110,20 @@ module _ (b : Board) (s : Sound b) where
   -- ---- The exact level, into lists as long as there can be bidders and items
 
   module _ (after : Lists) (a : Greatest) (o : ExactOutcome b (lists (replicate max_bidders 0) (replicate max_items 0) (replicate max_bidders 0)) a after) where
-    exact-answer : a ≡ Greatest.Weight (pence (greatest_on b))
+    exact-answer : a ≡ Ok (pence (greatest_on b))
     exact-answer =
         let shown = (exact-gives-demand-3 b _ after a o).exact s
         (record { plan = rw length-replicate s.auction.arrived; prices = rw length-replicate s.laid.count.high; gains = rw length-replicate s.auction.arrived }) in
         exact-told-weight a _ (exact-is-best b _ after a shown).answers
 
-    pub exact-weight : (w : Pence) → a ≡ Greatest.Weight w → w.0 ≡ greatest_on b
+    pub exact-weight : (w : Pence) → a ≡ Ok w → w.0 ≡ greatest_on b
     exact-weight w e =
-        let f : Greatest.Weight w ≡ Greatest.Weight (pence (greatest_on b)) = sym e ∙ exact-answer in
+        let f : ◌≡◌ {A = Greatest} (Ok w) (Ok (pence (greatest_on b))) = sym e ∙ exact-answer in
         let g : w ≡ pence (greatest_on b) = cc in
         ap (λ (p : Pence). p.0) g
 
-    pub exact-serves : (r : Refusal) → a ≡ Greatest.Refused r → ⊥
+    pub exact-serves : (r : Refusal) → a ≡ Err r → ⊥
     exact-serves r e =
-        let f : Greatest.Refused r ≡ Greatest.Weight (pence (greatest_on b)) = sym e ∙ exact-answer in
+        let f : ◌≡◌ {A = Greatest} (Err r) (Ok (pence (greatest_on b))) = sym e ∙ exact-answer in
         let z : ◌≡◌ {A = ℕ} 0 1 = cc in
         absurd (omega arith)

@@ -1,6 +1,6 @@
 -- Laws of the lines of an output.
 use mathlib.Core.Path.{◌≡◌, refl, sym, ◌∙◌, ap}
-use mathlib.Core.Bool.{Bool, true, false}
+use mathlib.Core.Bool.{Bool}
 use mathlib.Core.List.{List, [], ◌∷◌, ◌++◌}
 use Prim.Native.Nat.{ℕ, zero, suc, ◌+◌, ◌<◌}
 use native.Mathlib.Numerals.{add-one}
@@ -48,10 +48,3 @@ flags-same zero w v f e = refl
 flags-same (suc n) w v f e =
     ap (λ (l : List ℕ). l ++ item_line (w n) (n + 1) (f n)) (flags-same n w v f (λ k l. e k (omega arith)))
     ∙ ap (λ (x : Bool). item_lines v f n ++ item_line x (n + 1) (f n)) (e n (omega arith))
-
--- the line of an item, by whether it is withdrawn
-pub item-none : (withdrawn : Bool) (number price : ℕ) → withdrawn ≡ true → [] ≡ item_line withdrawn number price
-item-none withdrawn number price e = rw e refl
-
-pub item-some : (withdrawn : Bool) (number price : ℕ) → withdrawn ≡ false → line_of 89 (number ∷ price ∷ []) ≡ item_line withdrawn number price
-item-some withdrawn number price e = rw e refl

@@ -1,24 +1,20 @@
 -- What the program prints, from what a text is answered.
-use mathlib.Core.Path.{◌≡◌, sym, ◌∙◌, ap, subst}
+use Rattle.std.specs.Prelude.{Ok, Err}
+use mathlib.Core.Path.{◌≡◌, sym, ◌∙◌, ap}
 use mathlib.Core.List.{List, ◌++◌}
 use Prim.Native.Nat.{ℕ, ◌≤◌}
-use native.Mathlib.Nat.{le_trans}
 use native.Mathlib.Omega.{arith}
 use lib.ListN.{length, take, drop, length-append}
 use lib.Seq.{length-take-le, take_at}
-use Rattle.text.specs.Limits.{max_line}
 use Rattle.text.specs.Print.{Put}
 use Rattle.text.proofs.Puts.{front}
-use Rattle.refusals.specs.declared.Refusal.{Refusal}
-use Rattle.bidding.specs.Rule.{done}
+use Rattle.refusals.specs.declared.AtLine.{AtLine}
 use Rattle.refusals.specs.Codes.{code_of}
-use Rattle.replay.proofs.ReplayLaws.{replay_ends}
-use Rattle.history.specs.declared.planning.Planned.{Planned}
-use Rattle.history.specs.Limits.{max_output}
-use Rattle.history.specs.Output.{refusal_line}
-use Rattle.history.specs.Plan.{planned, plan_of, sheet_of, AtFront, SheetWritten}
-use Rattle.history.proofs.Plans.{sheet-written, sheet-refused}
-use Rattle.history.proofs.Laws.{output-fits}
+use Rattle.bidding.specs.Rule.{done}
+use Rattle.replay.specs.declared.Replayed.{Replayed}
+use Rattle.replay.specs.Replay.{replay_of}
+use Rattle.history.specs.Output.{output_of, refusal_line}
+use Rattle.history.specs.Plan.{printed_by, printed, sheet_of, AtFront, SheetWritten}
 
 pub at_front : (bytes before after : List ℕ) (n : ℕ) → n ≡ length bytes → after ≡ bytes ++ drop n before → AtFront bytes before after n
 at_front bytes before after n long e =
@@ -30,23 +26,22 @@ at_front bytes before after n long e =
       list = e;
     }
 
-module _ (s out new : List ℕ) (a : Planned) (room : max_output ≤ length out) (w : done (planned a new) ≡ plan_of s out) where
-  pub by_written : (n : ℕ) → a ≡ Planned.Written n → SheetWritten s out new n
-  by_written n e =
-      let r = replay_ends s in
-      let v = subst (λ (x : Planned). done (planned x new) ≡ plan_of s out) e w in
-      let p = sheet-written s out r.0 (sym r.1) (λ f. le_trans (output-fits s r.0 (r.1, f)) room) n new v in
-      at_front (sheet_of s) out new n p.0 p.1
+-- What was put there
+pub put-front : {out after bytes : List ℕ} {n : ℕ} → n ≤ length out → Put out after 0 bytes n → AtFront bytes out after n
+put-front {out} {after} {bytes} {n} room p =
+    let long : n ≡ length bytes = omega (arith, p.moved) in
+    at_front bytes out after n long (front (omega (arith, long)) p ∙ ap (λ (k : ℕ). bytes ++ drop k out) (sym long))
 
-  pub by-refused : (q : Refusal) (line number n : ℕ) (after : List ℕ) → a ≡ Planned.Refused q line → number ≡ (code_of q).number → max_output ≤ length new →
-      Put new after 0 (refusal_line number line) n → n ≤ max_line → SheetWritten s out after n
-  by-refused q line number n after e f room-new p short =
-      let r = replay_ends s in
-      let v = subst (λ (x : Planned). done (planned x new) ≡ plan_of s out) e w in
-      let (same, kept) = sheet-refused s out r.0 (sym r.1) (λ g. le_trans (output-fits s r.0 (r.1, g)) room) q line new v in
-      let long : n ≡ length (refusal_line number line) = omega (arith, p.moved) in
-      let said : refusal_line number line ≡ sheet_of s = ap (λ (k : ℕ). refusal_line k line) f ∙ same in
-      at_front (sheet_of s) out after n (long ∙ ap length said)
-      (front (omega (arith, long)) p
-      ∙ (ap (λ (k : ℕ). refusal_line number line ++ drop k new) (sym long)
-      ∙ (ap (λ (l : List ℕ). refusal_line number line ++ drop n l) kept ∙ ap (λ (l : List ℕ). l ++ drop n out) said)))
+module _ (s : List ℕ) (r : Replayed) (e : done r ≡ replay_of s) where
+  pub sheet-finished : {out after : List ℕ} {n : ℕ} → r.answer ≡ Ok tt → AtFront (output_of r.board r.bids) out after n → SheetWritten s out after n
+  unfolding sheet_of printed printed_by
+  sheet-finished f w =
+      let q : output_of r.board r.bids ≡ sheet_of s = ap (printed_by r.board r.bids) (sym f) ∙ ap printed e in
+      rw (← q) w
+
+  pub sheet-refused : {out after : List ℕ} {number n : ℕ} (stop : AtLine) → r.answer ≡ Err stop → number ≡ (code_of stop.refusal).number →
+      AtFront (refusal_line number stop.line) out after n → SheetWritten s out after n
+  unfolding sheet_of printed printed_by
+  sheet-refused {number = number} stop f c w =
+      let q : refusal_line number stop.line ≡ sheet_of s = ap (λ (k : ℕ). refusal_line k stop.line) c ∙ (ap (printed_by r.board r.bids) (sym f) ∙ ap printed e) in
+      rw (← q) w

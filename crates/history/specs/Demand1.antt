@@ -1,5 +1,6 @@
 -- Demand 1 of the calls on a text: the text's own refusals first, and 8 last; and what the program prints of either end.
-use Rattle.std.specs.Prelude.{◌≡◌, ◌↔◌, List, ◌++◌, ℕ, ◌<◌, ◌≤◌, length, drop}
+use Rattle.replay.specs.Replay.{halted}
+use Rattle.std.specs.Prelude.{◌≡◌, ◌↔◌, List, ◌++◌, ℕ, ◌<◌, ◌≤◌, length, drop, Ok, Err}
 use Rattle.refusals.specs.declared.Refusal.{Refusal}
 use Rattle.refusals.specs.declared.Told.{Told}
 use Rattle.refusals.specs.Codes.{code_of}
@@ -7,16 +8,15 @@ use Rattle.refusals.specs.Told.{told, served, refused_at}
 use Rattle.supply.specs.declared.record.Board.{Board}
 use Rattle.bidding.specs.Rule.{done}
 use Rattle.replay.specs.TextDemand1.{TextRefused, TextFinished}
-use Rattle.history.specs.declared.planning.Planned.{Planned}
 use Rattle.history.specs.Output.{output_of, refusal_line}
-use Rattle.history.specs.Plan.{planned, plan_of, sheet_of}
+use Rattle.history.specs.Plan.{planned, plan_of, sheet_of, Planned}
 
 -- ---- A text's plan, written to a lent list
 
 -- What is told: the bytes written, or the refusal at its line
 abbrev pub planned_told : Planned → Told
-planned_told (Planned.Written n) = served n
-planned_told (Planned.Refused r line) = refused_at r line 0
+planned_told (Ok n) = served n
+planned_told (Err s) = refused_at s.refusal s.line 0
 
 -- Refused: as the text is; or the text is finished, and "a list to be written has too few cells"
 pub data PlanRefused (s out : List ℕ) : Refusal → ℕ → Type 0 where
@@ -41,9 +41,9 @@ pub record PlanAnswers (s out after : List ℕ) (t : Told) : Type 0 where
 
 pub record PlanDemand1 (s out : List ℕ) : Type 0 where
   -- Refused exactly when a row of the table is met, and then the list is as it was
-  pub refuses : (r : Refusal) (n : ℕ) (after : List ℕ) → (plan_of s out ≡ done (planned (Planned.Refused r n) after)) ↔ (PlanRefused s out r n × (after ≡ out))
+  pub refuses : (r : Refusal) (n : ℕ) (after : List ℕ) → (plan_of s out ≡ done (planned (halted r n) after)) ↔ (PlanRefused s out r n × (after ≡ out))
   -- "otherwise it is served"
-  pub writes : (n : ℕ) (after : List ℕ) → (plan_of s out ≡ done (planned (Planned.Written n) after)) ↔ PlanWritten s out n after
+  pub writes : (n : ℕ) (after : List ℕ) → (plan_of s out ≡ done (planned (Ok n) after)) ↔ PlanWritten s out n after
   -- In numbers
   pub numbered : (number line : ℕ) (after : List ℕ) → 0 < number →
       PlanAnswers s out after (told number line 0) ↔ ((r : Refusal) × ((code_of r).number ≡ number) × PlanRefused s out r line × (after ≡ out))

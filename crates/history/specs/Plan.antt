@@ -1,13 +1,16 @@
 -- What a text is answered, what is written, and what the program prints.
-use Rattle.std.specs.Prelude.{◌≡◌, cond, List, [], ◌++◌, ℕ, ◌≤◌, length, take, drop, ltb}
+use Rattle.std.specs.Prelude.{◌≡◌, cond, List, [], ◌++◌, ℕ, ◌≤◌, length, take, drop, ltb, Ok, Err, Result}
 use Rattle.supply.specs.declared.record.Board.{Board}
 use Rattle.refusals.specs.declared.Refusal.{Refusal}
-use Rattle.replay.specs.declared.Ending.{Ending}
+use Rattle.refusals.specs.declared.AtLine.{AtLine}
 use Rattle.replay.specs.declared.Replayed.{Replayed}
 use Rattle.bidding.specs.Rule.{Outcome, done, spent}
-use Rattle.replay.specs.Replay.{replay_of}
-use Rattle.history.specs.declared.planning.Planned.{Planned}
+use Rattle.replay.specs.Replay.{replay_of, Ending, halted}
 use Rattle.history.specs.Output.{output_of, refusal_of}
+
+-- What a text is answered: the bytes that were written, or a refusal at its line
+abbrev pub Planned : Type 0
+Planned = Result ℕ AtLine
 
 -- The answer, and the lent list after the call
 pub record PlanOutcome : Type 0 where
@@ -21,13 +24,13 @@ planned answer out = record { answer = answer; out = out }
 unfoldable pub fitted : List ℕ → List ℕ → PlanOutcome
 fitted bytes out =
     cond (ltb (length out) (length bytes))
-    (planned (Planned.Refused Refusal.Short 0) out)
-    (planned (Planned.Written (length bytes)) (bytes ++ drop (length bytes) out))
+    (planned (halted Refusal.Short 0) out)
+    (planned (Ok (length bytes)) (bytes ++ drop (length bytes) out))
 
 -- A text that is finished has its output; a refused one leaves the list as it was. 8 comes last
 unfoldable pub ended_by : List ℕ → Board → ℕ → Ending → PlanOutcome
-ended_by out b bids Ending.Finished = fitted (output_of b bids) out
-ended_by out b bids (Ending.Stopped r n) = planned (Planned.Refused r n) out
+ended_by out b bids (Ok tt) = fitted (output_of b bids) out
+ended_by out b bids (Err s) = planned (Err s) out
 
 unfoldable pub plan_from : List ℕ → Outcome Replayed → Outcome PlanOutcome
 plan_from out spent = spent
@@ -40,8 +43,8 @@ plan_of s out = plan_from out (replay_of s)
 -- ---- What the program prints
 
 unfoldable pub printed_by : Board → ℕ → Ending → List ℕ
-printed_by b bids Ending.Finished = output_of b bids
-printed_by b bids (Ending.Stopped r n) = refusal_of r n
+printed_by b bids (Ok tt) = output_of b bids
+printed_by b bids (Err s) = refusal_of s.refusal s.line
 
 unfoldable pub printed : Outcome Replayed → List ℕ
 printed spent = []

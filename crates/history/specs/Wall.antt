@@ -1,20 +1,19 @@
 -- The page of the board that a text reaches: what `./plan --page` prints.
-use Rattle.std.specs.Prelude.{◌≡◌, List, [], ℕ}
+use Rattle.std.specs.Prelude.{◌≡◌, List, [], ℕ, Ok, Err}
 use Rattle.refusals.specs.declared.Refusal.{Refusal}
 use Rattle.refusals.specs.Codes.{code_of}
 use Rattle.supply.specs.declared.record.Board.{Board}
-use Rattle.replay.specs.declared.Ending.{Ending}
 use Rattle.replay.specs.declared.Replayed.{Replayed}
 use Rattle.bidding.specs.Rule.{Outcome, done, spent}
-use Rattle.replay.specs.Replay.{replay_of}
+use Rattle.replay.specs.Replay.{replay_of, Ending}
 use Rattle.replay.specs.TextDemand1.{TextRefused, TextFinished}
 use Rattle.page.specs.Rows.{board_page}
 use Rattle.history.specs.Output.{refusal_line, refusal_of}
 use Rattle.history.specs.Plan.{AtFront}
 
 unfoldable pub wall_by : Board → Ending → List ℕ
-wall_by b Ending.Finished = board_page b
-wall_by b (Ending.Stopped r n) = refusal_of r n
+wall_by b (Ok tt) = board_page b
+wall_by b (Err s) = refusal_of s.refusal s.line
 
 unfoldable pub wall_from : Outcome Replayed → List ℕ
 wall_from spent = []

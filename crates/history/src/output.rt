@@ -1,7 +1,7 @@
 // The lines of the output, written one after the other.
 ghost use Rattle.std.specs.Prelude.{ℕ, ◌+◌, ◌*◌, ◌≤◌, ◌<◌};
-ghost use Rattle.text.specs.Limits.{max_line, max_at};
-ghost use Rattle.text.specs.Print.{Put};
+ghost use Rattle.text.specs.Limits.{max_line};
+ghost use Rattle.text.specs.Out.{Puts};
 ghost use Rattle.duality.specs.Lists.{cells};
 ghost use Rattle.board.specs.Limits.{max_items, max_bidders};
 ghost use Rattle.supply.specs.Board.{start_in};
@@ -14,84 +14,67 @@ use board::record::{Auction, Market};
 use board::units::{Pence, Scaled};
 use supply::record::Items;
 use supply::shape::starts_of;
-use text::print::put_line;
+use text::print::Out;
 
 // "`P` batch, kettle or 0, gain": a line for each bidder.
-fn put_bidders<'a>(
-    out: &mut [u8],
-    plan: &'a [u64; Auction::MAX_BIDDERS],
-    gains: &'a [u64; Auction::MAX_BIDDERS],
+// The count is beside the lists, which have a cell for every bidder that there may be.
+fn put_bidders(
+    out: &mut Out<'_>,
+    plan: &[u64; Auction::MAX_BIDDERS],
+    gains: &[u64; Auction::MAX_BIDDERS],
     count: usize,
-) -> usize
+)
     requires { count ≤ max_bidders }
-    ensures { Put out.old out.new 0 (bidder_lines (cells plan.now) (cells gains.now) count) result × (result ≤ max_line * count) }
+    ensures put { Puts out.old out.new (bidder_lines (cells plan.now) (cells gains.now) count) }
+    ensures few { out.new.at ≤ out.old.at + max_line * count }
 {
-    let mut next: usize = 0;
-    let mut i: usize = 0;
-    while i < count {
-        next = put_line(out, next, b'P', [i as u64 + 1, plan[i], gains[i]], 3);
-        i += 1;
+    for i in 0..count {
+        out.put_record(b'P', &[i as u64 + 1, plan[i], gains[i]]);
     }
-    next
 }
 
 // "`Y` kettle, price (withdrawn ones omitted)": the line of an item.
-fn put_item(out: &mut [u8], at: usize, withdrawn: bool, number: u64, price: u64) -> usize
-    requires { at ≤ max_at }
-    ensures { Put out.old out.new at (item_line withdrawn number price) result × (result ≤ at + max_line) }
+fn put_item(out: &mut Out<'_>, withdrawn: bool, number: u64, price: u64)
+    ensures put { Puts out.old out.new (item_line withdrawn number price) }
+    ensures few { out.new.at ≤ out.old.at + max_line }
 {
-    if withdrawn {
-        return at;
+    if !withdrawn {
+        out.put_record(b'Y', &[number, price]);
     }
-    put_line(out, at, b'Y', [number, price, 0], 2)
 }
 
 // The lines of the items.
 fn put_items(
-    out: &mut [u8],
-    at: usize,
+    out: &mut Out<'_>,
     items: Items,
     withdrawn: [u8; Auction::MAX_ITEMS],
     prices: &[u64; Auction::MAX_BIDDERS],
-) -> usize
-    requires { (at ≤ max_line * max_bidders) × Fits items × ((k : ℕ) → k < items.count → start_in items k < max_items) }
-    ensures { Put out.old out.new at (item_lines (gone_by items withdrawn) (cells prices.now) items.count) result × (result ≤ at + max_line * items.count) }
+)
+    requires { Fits items × ((k : ℕ) → k < items.count → start_in items k < max_items) }
+    ensures put { Puts out.old out.new (item_lines (gone_by items withdrawn) (cells prices.now) items.count) }
+    ensures few { out.new.at ≤ out.old.at + max_line * items.count }
 {
-    let count = items.count as usize;
     let starts = starts_of(items);
-    let mut next = at;
-    let mut k: usize = 0;
-    while k < count {
-        let s = starts[k];
-        next = put_item(out, next, withdrawn[s] != 0, k as u64 + 1, prices[k]);
-        k += 1;
+    for k in 0..items.count as usize {
+        put_item(out, withdrawn[starts[k]] != 0, k as u64 + 1, prices[k]);
     }
-    next
 }
 
 // The lines of the bidders, and of the items.
-pub(crate) fn put_columns(out: &mut [u8], columns: Columns, items: Items, market: Market) -> usize
+pub(crate) fn put_columns(out: &mut Out<'_>, columns: Columns, items: Items, market: Market)
     requires { (market.arrived ≤ max_bidders) × Fits items × ((k : ℕ) → k < items.count → start_in items k < max_items) }
-    ensures { Put out.old out.new 0 (column_lines columns items market) result × (result ≤ max_line * (max_bidders + max_items)) }
+    ensures put { Puts out.old out.new (column_lines columns items market) }
+    ensures few { out.new.at ≤ out.old.at + max_line * (max_bidders + max_items) }
 {
-    let bidders = market.arrived as usize;
-    let withdrawn = market.withdrawn;
-    let next = put_bidders(out, &columns.plan, &columns.gains, bidders);
-    put_items(out, next, items, withdrawn, &columns.prices)
+    put_bidders(out, &columns.plan, &columns.gains, market.arrived as usize);
+    put_items(out, items, market.withdrawn, &columns.prices);
 }
 
 // "`T` worth, sum of prices and gains, bids in all; `E` greatest worth".
-pub(crate) fn put_last(
-    out: &mut [u8],
-    at: usize,
-    weight: Pence,
-    sum: Scaled,
-    bids: u64,
-    greatest: Pence,
-) -> usize
-    requires { at ≤ max_line * (max_bidders + max_items) }
-    ensures { Put out.old out.new at (last_lines weight.0 sum.0 bids greatest.0) result × (result ≤ at + max_line * 2) }
+pub(crate) fn put_last(out: &mut Out<'_>, weight: Pence, sum: Scaled, bids: u64, greatest: Pence)
+    ensures put { Puts out.old out.new (last_lines weight.0 sum.0 bids greatest.0) }
+    ensures few { out.new.at ≤ out.old.at + max_line * 2 }
 {
-    let next = put_line(out, at, b'T', [weight.0, sum.0, bids], 3);
-    put_line(out, next, b'E', [greatest.0, 0, 0], 1)
+    out.put_record(b'T', &[weight.0, sum.0, bids]);
+    out.put_record(b'E', &[greatest.0]);
 }

@@ -9,7 +9,7 @@ ghost use Rattle.hungarian.specs.Exact.{greatest_on};
 use board::lent::{Columns, sum};
 use board::record::Auction;
 use board::units::{Pence, Scaled};
-use hungarian::exact::{Greatest, exact};
+use hungarian::exact::exact;
 use supply::record::Board;
 
 // The sum of the first prices and gains.
@@ -21,15 +21,14 @@ pub(crate) fn total_of(columns: Columns, bidders: usize, items: usize) -> Scaled
 }
 
 // The greatest weight of a matching on the live edges.
-pub(crate) fn greatest(board: Board) -> Pence
-    requires { Sound board }
-    ensures { result.0 ≡ greatest_on board }
+pub(crate) fn greatest(board: &Board) -> Pence
+    requires { Sound board.now }
+    ensures { result.0 ≡ greatest_on board.now }
 {
     let mut plan = [0u64; Auction::MAX_BIDDERS];
     let mut prices = [0u64; Auction::MAX_ITEMS];
     let mut gains = [0u64; Auction::MAX_BIDDERS];
-    let answer = exact(board, &mut plan, &mut prices, &mut gains);
-    let Greatest::Weight(weight) = answer else {
+    let Ok(weight) = exact(board, &mut plan, &mut prices, &mut gains) else {
         return Pence(0);
     };
     weight

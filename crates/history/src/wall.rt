@@ -5,18 +5,18 @@ ghost use Rattle.page.specs.Rows.{board_page};
 ghost use Rattle.history.specs.Plan.{planned, fitted, AtFront};
 ghost use Rattle.history.specs.Wall.{wall_of, WallWritten};
 
-use crate::planning::{MAX_OUTPUT, Planned, fit, put_refusal};
-use page::writing::{PageWritten, write_page};
-use replay::{Ending, replay};
+use crate::planning::{MAX_OUTPUT, fit_put, put_refusal};
+use page::writing::write_page;
+use refusals::AtLine;
+use replay::{Replayed, replay_on};
 use supply::record::Board;
 
 // The page of a sound board, at the front of a list that is never too short.
-fn put_board(board: Board, out: &mut [u8; MAX_OUTPUT]) -> usize
-    requires { Sound board }
-    ensures { AtFront (board_page board) out.old out.new result }
+fn put_board(board: &Board, out: &mut [u8; MAX_OUTPUT]) -> usize
+    requires { Sound board.now }
+    ensures { AtFront (board_page board.now) out.old out.new result }
 {
-    let written = write_page(board, out);
-    let PageWritten::Bytes(n) = written else {
+    let Ok(n) = write_page(board, out) else {
         return 0;
     };
     n as usize
@@ -26,19 +26,17 @@ fn put_board(board: Board, out: &mut [u8; MAX_OUTPUT]) -> usize
 pub fn wall_text(text: &[u8], out: &mut [u8; MAX_OUTPUT]) -> usize
     ensures { WallWritten text.now out.old out.new result }
 {
-    let replayed = replay(text);
-    let answer = replayed.answer;
-    let Ending::Stopped(refusal, line) = answer else {
-        return put_board(replayed.board, out);
-    };
-    put_refusal(refusal.number(), line, out)
+    let mut replayed = Replayed::blank();
+    replay_on(text, &mut replayed);
+    match replayed.answer {
+        Ok(()) => put_board(&replayed.board, out),
+        Err(stop) => put_refusal(stop.refusal.number(), stop.line, out),
+    }
 }
 
 // The same where there is room for all of it, in a list of any length.
-pub fn page_text(text: &[u8], out: &mut [u8]) -> Planned
+pub fn page_text(text: &[u8], out: &mut [u8]) -> Result<u64, AtLine>
     ensures { planned result out.new ≡ fitted (wall_of text.now) out.old }
 {
-    let mut page = [0u8; MAX_OUTPUT];
-    let bytes = wall_text(text, &mut page);
-    fit(&page, bytes, out)
+    fit_put(out, |page| wall_text(text, page))
 }

@@ -1,20 +1,18 @@
 -- The pass over the items in which prices and gains are adjusted.
-use mathlib.Core.Path.{◌≡◌, refl, sym, ap, ◌∙◌}
+use mathlib.Core.Path.{◌≡◌, sym, ap, ◌∙◌}
 use mathlib.Core.Bool.{Bool, true, false}
 use mathlib.Core.List.{List}
 use mathlib.Core.Logic.{by_cases}
 use Prim.Native.Nat.{ℕ, suc, ◌+◌, ◌-◌, ◌≤◌, ◌<◌, ◌^◌}
 use native.Mathlib.Decide.{ℕ_discrete}
-use native.Mathlib.Nat.{le_antisymm}
 use native.Mathlib.Omega.{arith}
 use borrow.Author.Count.{below_more}
 use lib.ListN.{set, length, length-set}
 use lib.Seq.{get_or-set_same, get_or-set_other}
 use Rattle.duality.specs.Lists.{cells}
 use Rattle.board.specs.Limits.{max_items, max_bidders}
-use Rattle.board.specs.Cells.{flag_at}
 use Rattle.hungarian.specs.Settled.{Holds}
-use Rattle.hungarian.specs.Insertion.{Adjustable, Adjusted, AdjustableIn, AdjustedIn}
+use Rattle.hungarian.specs.Insertion.{Adjustable, Adjusted}
 use Rattle.hungarian.proofs.Cells.{earlier, never, risen-visited, risen-unvisited}
 
 -- After n items
@@ -23,20 +21,6 @@ pub record Adjusting (price gain holder : ℕ → ℕ) (visited : ℕ → Bool) 
   pub long : length price' ≡ max_items
   pub long₂ : length gain' ≡ max_bidders
   pub adjusted : Adjusted price gain holder visited excess fall (cells price') (cells gain') n
-
-pub adjust-none : {holder : ℕ → ℕ} {visited : ℕ → Bool} {excess : ℕ → ℕ} {fall : ℕ} (price gain : List ℕ) → length price ≡ max_items → length gain ≡ max_bidders → Adjusting (cells price) (cells gain) holder visited excess fall price gain 0
-adjust-none price gain x y =
-    record {
-      near = omega arith;
-      long = x;
-      long₂ = y;
-      adjusted = record {
-        prices = λ k l. absurd (omega arith);
-        further = λ k l. refl;
-        gains = λ k i l. absurd (omega arith);
-        others = λ i f. refl;
-      };
-    }
 
 -- A visited item's cell names its holder, one of the bidders, and there is room for the change
 pub record Room (holder : ℕ → ℕ) (visited : ℕ → Bool) (excess : ℕ → ℕ) (fall : ℕ) (price' gain' : List ℕ) (n : ℕ) : Type 0 where
@@ -100,9 +84,3 @@ module _ {price gain holder : ℕ → ℕ} {visited : ℕ → Bool} {excess : �
             others = λ j f. get_or-set_other gain' i j _ 0 (λ e. f n (omega arith) v (held ∙ ap suc (sym e))) ∙ p.adjusted.others j (λ k h. f k (omega arith));
           };
         }
-
-pub adjust-all : {price gain holder visited excess : List ℕ} {fall : ℕ} {price' gain' : List ℕ} {n : ℕ} → AdjustableIn price gain holder visited excess fall
-    → Adjusting (cells price) (cells gain) (cells holder) (flag_at visited) (cells excess) fall price' gain' n → max_items ≤ n
-    → AdjustedIn price gain holder visited excess fall price' gain'
-adjust-all {n = n} able p all =
-    record { prices = p.long ∙ sym able.prices; gains = p.long₂ ∙ sym able.gains; adjusted = rw (le_antisymm all p.near) p.adjusted }

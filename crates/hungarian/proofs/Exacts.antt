@@ -1,4 +1,5 @@
 -- What is solved on the live edges, written into three lists, shows the greatest weight; so the exact call meets demand 3 and demand 1.
+use Rattle.std.specs.Prelude.{Err, Ok}
 use mathlib.Core.Path.{◌≡◌, refl, sym, ap, subst, ◌∙◌}
 use mathlib.Core.Bool.{true, cond}
 use mathlib.Core.List.{List}
@@ -28,9 +29,7 @@ use Rattle.refusals.specs.declared.Refusal.{Refusal}
 use Rattle.refusals.specs.declared.Told.{Told}
 use Rattle.refusals.specs.Told.{served, refused}
 use Rattle.refusals.proofs.Answers.{refused-apart, served-apart}
-use Rattle.refusals.specs.declared.Verdict.{Verdict}
-use Rattle.refusals.specs.declared.Verdict.TheVariants.{Served, Refused}
-use Rattle.refusals.specs.Demand1.{first_of}
+use Rattle.refusals.specs.Demand1.{first_of, Verdict}
 use Rattle.refusals.proofs.Verdicts.{demand-1}
 use Rattle.board.specs.Limits.{max_items}
 use Rattle.board.specs.Cells.{pence}
@@ -45,11 +44,10 @@ use Rattle.supply.specs.Lent.{Roomy}
 use Rattle.supply.specs.Columns.{ReadByItem}
 use Rattle.supply.proofs.SoundLaw.{sound-decides}
 use Rattle.supply.proofs.ByItem.{places-as-item, first-place, sound-over-places}
-use Rattle.supply.proofs.Lending.{roomy-decides, read-out-decided, lent-served}
-use Rattle.hungarian.specs.declared.exact.Greatest.{Greatest}
+use Rattle.supply.proofs.Lending.{roomy-decides, read-out-decided}
 use Rattle.hungarian.specs.Solved.{Solved, SolvedBy}
 use Rattle.hungarian.specs.LiveWeights.{LiveTo}
-use Rattle.hungarian.specs.Exact.{exact_checks, exact_by, exact_of, greatest_on, exact_told, KeptFrom, Shows, ExactOutcome}
+use Rattle.hungarian.specs.Exact.{Greatest, exact_checks, exact_by, exact_of, greatest_on, exact_told, KeptFrom, Shows, ExactOutcome}
 use Rattle.hungarian.specs.Demand3.{EqualExactlyWhenBestOn, ExactGivesDemand3, ExactDemand1, ExactIsBest, ExactKeeps}
 use Rattle.hungarian.proofs.Solving.{solved-is-greatest, solved-for-fewer}
 use Rattle.hungarian.proofs.LiveWeights.{live-is, live-unused}
@@ -133,7 +131,7 @@ module _ (b : Board) (matrix : List ℕ) (c : Columns) (weight : ℕ) (s : Sound
 
   -- Lists that hold it
   pub shows : (l : Lists) (d : Columns) → Roomy b l → ReadByItem b.items b.market.arrived c d →
-      Shows b l (Greatest.Weight (pence weight)) (written_lists b.market.arrived b.items.count d l)
+      Shows b l (Ok (pence weight)) (written_lists b.market.arrived b.items.count d l)
   shows l d room read =
       record {
         matches = plan-as plan-is by-item.plans;
@@ -204,22 +202,22 @@ exact-keeps b before after answer s =
 
 -- ---- What is told of an answer names the answer
 
-pub exact-told-weight : (a : Greatest) (w : ℕ) → exact_told a ≡ served w → a ≡ Greatest.Weight (pence w)
-exact-told-weight (Greatest.Weight v) w e = ap (λ x. Greatest.Weight (pence x)) (ap (λ (t : Told). t.value) e)
-exact-told-weight (Greatest.Refused r) w e = served-apart w r _ _ (sym e)
+pub exact-told-weight : (a : Greatest) (w : ℕ) → exact_told a ≡ served w → a ≡ Ok (pence w)
+exact-told-weight (Ok v) w e = ap (λ x. Ok (pence x)) (ap (λ (t : Told). t.value) e)
+exact-told-weight (Err r) w e = served-apart w r _ _ (sym e)
 
-exact-told-refused : (a : Greatest) (r : Refusal) → exact_told a ≡ refused r → a ≡ Greatest.Refused r
-exact-told-refused (Greatest.Weight v) r e = served-apart v.0 r _ _ e
-exact-told-refused (Greatest.Refused s) r e = ap Greatest.Refused (refused-apart s r e)
+exact-told-refused : (a : Greatest) (r : Refusal) → exact_told a ≡ refused r → a ≡ Err r
+exact-told-refused (Ok v) r e = served-apart v.0 r _ _ e
+exact-told-refused (Err s) r e = ap Err (refused-apart s r e)
 
 -- ---- The call's two ends
 
 module _ (b : Board) (l : Lists) where
-  pub exact-refused : (r : Refusal) → first_of (exact_checks b l) ≡ Refused r → ExactOutcome b l (Greatest.Refused r) l
+  pub exact-refused : (r : Refusal) → first_of (exact_checks b l) ≡ Err r → ExactOutcome b l (Err r) l
   unfolding exact_of exact_by
   exact-refused r e = record { answers = rw e refl; refused = λ q f. refl; served = λ w f. served-apart w r _ _ (sym f) }
 
-  pub exact-shown : (answer : Greatest) (after : Lists) → first_of (exact_checks b l) ≡ Served → Shows b l answer after → ExactOutcome b l answer after
+  pub exact-shown : (answer : Greatest) (after : Lists) → first_of (exact_checks b l) ≡ Ok tt → Shows b l answer after → ExactOutcome b l answer after
   unfolding exact_of exact_by
   exact-shown answer after e s =
       record {
@@ -230,13 +228,14 @@ module _ (b : Board) (l : Lists) where
 
 -- ---- Demand 3
 
+lent-served : (b : Board) (l : Lists) → Sound b → Roomy b l → first_of (exact_checks b l) ≡ Ok tt
+unfolding first_of
+lent-served b l s room = rw ((sound-decides b).complete s, (roomy-decides b l).complete room) refl
+
 pub exact-gives-demand-3 : ExactGivesDemand3
 unfolding exact_of exact_by
 exact-gives-demand-3 b l after answer o =
-    record { best = best-on b; exact = λ s room. o.served (greatest_on b) (ap exact_told (o.answers ∙ ap (exact_by b) (serves s room))) }
-  where
-    serves : Sound b → Roomy b l → first_of (exact_checks b l) ≡ Served
-    serves s room = sym (lent-served b _ _ _ ((sound-decides b).complete s) ((roomy-decides b l).complete room))
+    record { best = best-on b; exact = λ s room. o.served (greatest_on b) (ap exact_told (o.answers ∙ ap (exact_by b) (lent-served b l s room))) }
 
 -- ---- Demand 1
 
@@ -252,10 +251,10 @@ exact-demand-1 b l after answer o =
       λ s. by-shown (first_of (exact_checks b l)) (sym o.answers ∙ exact-told-weight answer _ s.totals),
     )
   where
-    by-refused : (r : Refusal) (v : Verdict) → exact_by b v ≡ Greatest.Refused r → v ≡ Refused r
-    by-refused r Served e = let z : ◌≡◌ {A = ℕ} 0 1 = cc in absurd (omega arith)
-    by-refused r (Refused s) e = let h : s ≡ r = cc in ap Refused h
+    by-refused : (r : Refusal) (v : Verdict) → exact_by b v ≡ Err r → v ≡ Err r
+    by-refused r (Ok tt) e = let z : ◌≡◌ {A = ℕ} 0 1 = cc in absurd (omega arith)
+    by-refused r (Err s) e = let h : s ≡ r = cc in ap Err h
 
-    by-shown : {w : Pence} (v : Verdict) → exact_by b v ≡ Greatest.Weight w → v ≡ Served
-    by-shown Served e = refl
-    by-shown (Refused s) e = let z : ◌≡◌ {A = ℕ} 0 1 = cc in absurd (omega arith)
+    by-shown : {w : Pence} (v : Verdict) → exact_by b v ≡ Ok w → v ≡ Ok tt
+    by-shown (Ok tt) e = refl
+    by-shown (Err s) e = let z : ◌≡◌ {A = ℕ} 0 1 = cc in absurd (omega arith)

@@ -11,11 +11,9 @@ use lib.Seq.{get_or-set_same, get_or-set_other}
 use Rattle.duality.specs.Lists.{cells}
 use Rattle.duality.proofs.Below.{find, one_more}
 use Rattle.board.specs.Limits.{max_items, max_bidders, max_weight}
-use Rattle.hungarian.specs.declared.tree.Front.{Front}
-use Rattle.hungarian.specs.Limits.{unreached}
 use Rattle.hungarian.specs.Weights.{matrix_at, Light}
 use Rattle.hungarian.specs.Settled.{Holds, TightEdge, Settled, SettledIn}
-use Rattle.hungarian.specs.Tree.{Tree, tree_of, Sized, Visited, Unvisited, visited_at, excess_at, price_now, InTree, as-root, as-holder, TightNow, IdleNow}
+use Rattle.hungarian.specs.Tree.{Tree, Sized, Visited, Unvisited, visited_at, excess_at, price_now, InTree, as-root, as-holder, TightNow, IdleNow}
 use Rattle.hungarian.specs.Growth.{Everyone, Balanced, Sprout}
 use Rattle.hungarian.specs.Path.{Path}
 use Rattle.hungarian.specs.Search.{Inserting, BidderStart, Ended}
@@ -105,14 +103,10 @@ sprouted weights price gain holder n t sized p full s =
     alone i level ne (as-holder k v h f) = never v (p.fresh k)
 
 -- Both together
-pub first-tree : {weights price gain holder parent : List ℕ} {n : ℕ} (f : Front) → Light weights → n < max_bidders → SettledIn weights price gain holder n
-    → length parent ≡ max_items → Sprout n holder (tree_of holder (replicate max_items 0) (replicate max_items unreached) parent f)
-    → BidderStart weights price (set gain n max_weight) n (tree_of holder (replicate max_items 0) (replicate max_items unreached) parent f)
-first-tree {weights} {price} {gain} {holder} {parent} {n} f light near q long p =
-    sprouted weights price (set gain n max_weight) holder n _ sized p (get_or-set_same gain n max_weight 0 (omega (arith, q.gains))) (entered light near q)
-  where
-    sized : Sized (tree_of holder (replicate max_items 0) (replicate max_items unreached) parent f)
-    sized = record { holder = q.holders; visited = length-replicate {A = ℕ} max_items 0; excess = length-replicate {A = ℕ} max_items unreached; parent = long }
+pub first-tree : {weights price gain holder : List ℕ} {n : ℕ} {t : Tree} → Light weights → n < max_bidders → SettledIn weights price gain holder n
+    → Sized t → Sprout n holder t → BidderStart weights price (set gain n max_weight) n t
+first-tree {weights} {price} {gain} {holder} {n} {t} light near q sized p =
+    sprouted weights price (set gain n max_weight) holder n t sized p (get_or-set_same gain n max_weight 0 (omega (arith, q.gains))) (entered light near q)
 
 -- The tree is exhausted
 module _ {weights : List ℕ} {price gain holder : ℕ → ℕ} {r : Tree} (s : Inserting weights price gain holder r.root)

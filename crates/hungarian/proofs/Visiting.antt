@@ -158,9 +158,6 @@ module _ {weights price gain : List ℕ} {parent item : ℕ} {t : Tree} (s : Ite
           };
         }
 
-    pub holder-near : j < max_bidders
-    holder-near = omega (arith, (s.inserting.settled.held.known item j held).1, s.inserting.near)
-
     -- The parent is not the holder
     apart : parent ≢ j
     apart e = not-reached s.inserting item s.fresh held (reached-as e refl s.tight.reached)

@@ -14,8 +14,7 @@ use Rattle.refusals.specs.Told.{served, refused}
 use Rattle.refusals.specs.Demand1.{Demand1}
 use Rattle.supply.specs.Lent.{Roomy, ReadOutMet}
 use Rattle.board.specs.Lent.{Lists}
-use Rattle.hungarian.specs.declared.exact.Greatest.{Greatest}
-use Rattle.hungarian.specs.Exact.{exact_checks, greatest_on, exact_told, Shows, ExactOutcome}
+use Rattle.hungarian.specs.Exact.{Greatest, exact_checks, greatest_on, exact_told, Shows, ExactOutcome}
 
 -- "Take any sound board, any plan on its live sheet and any list of whole-penny prices and gains that covers that sheet, whoever made them. The plan's
 -- worth equals the list's sum exactly when every other plan on that sheet is worth at most as much and every other covering list sums to at least as

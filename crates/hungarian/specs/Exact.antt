@@ -1,5 +1,5 @@
 -- The exact call: its whole outcome, on all inputs. "Which of several best plans or lists comes out is free."
-use Rattle.std.specs.Prelude.{◌≡◌, true, List, ℕ, ◌≤◌, ◌<◌, length}
+use Rattle.std.specs.Prelude.{◌≡◌, true, List, ℕ, ◌≤◌, ◌<◌, length, Result, Err, Ok}
 use Rattle.duality.specs.Lists.{cells}
 use Rattle.duality.specs.Matching.{weight_of}
 use Rattle.duality.specs.Cover.{Covers}
@@ -10,14 +10,13 @@ use Rattle.supply.specs.declared.record.Board.{Board}
 use Rattle.refusals.specs.declared.Refusal.{Refusal}
 use Rattle.refusals.specs.declared.Told.{Told}
 use Rattle.refusals.specs.Told.{served, refused}
-use Rattle.refusals.specs.declared.Verdict.{Verdict}
 use Rattle.supply.specs.Board.{places_at}
 use Rattle.supply.specs.ByItem.{withdrawn_at, live}
+use Rattle.board.specs.declared.units.Pence.{Pence}
 use Rattle.board.specs.Cells.{pence}
-use Rattle.refusals.specs.Demand1.{Check, first_of}
+use Rattle.refusals.specs.Demand1.{Check, first_of, Verdict}
 use Rattle.supply.specs.Lent.{read_out_checks}
 use Rattle.board.specs.Lent.{Lists}
-use Rattle.hungarian.specs.declared.exact.Greatest.{Greatest}
 
 -- "Read-out and exact 13, 8"
 abbrev pub exact_checks : Board → Lists → List Check
@@ -27,9 +26,13 @@ exact_checks = read_out_checks
 abbrev pub greatest_on : Board → ℕ
 greatest_on b = greatest_with b.market.arrived b.items.count (places_at b) (live b)
 
+-- The greatest weight of a plan on the live edges, or the refusal
+abbrev pub Greatest : Type 0
+Greatest = Result Pence Refusal
+
 unfoldable pub exact_by : Board → Verdict → Greatest
-exact_by b Verdict.Served = Greatest.Weight (pence (greatest_on b))
-exact_by b (Verdict.Refused r) = Greatest.Refused r
+exact_by b (Ok tt) = Ok (pence (greatest_on b))
+exact_by b (Err r) = Err r
 
 -- The answer, on all inputs
 unfoldable pub exact_of : Board → Lists → Greatest
@@ -37,8 +40,8 @@ exact_of b l = exact_by b (first_of (exact_checks b l))
 
 -- What is told: "and returns that worth"
 abbrev pub exact_told : Greatest → Told
-exact_told (Greatest.Weight w) = served w.0
-exact_told (Greatest.Refused r) = refused r
+exact_told (Ok w) = served w.0
+exact_told (Err r) = refused r
 
 -- "Further cells keep what they held": a list keeps its length, and its cells from n on
 pub record KeptFrom (n : ℕ) (before after : List ℕ) : Type 0 where

@@ -4,6 +4,7 @@ use Rattle.duality.specs.Lists.{cells}
 use Rattle.board.specs.Limits.{max_items}
 use Rattle.board.specs.Cells.{flag_at}
 use Rattle.hungarian.specs.declared.tree.Front.{Front}
+use Rattle.hungarian.specs.declared.tree.Search.{Search}
 use Rattle.hungarian.specs.Settled.{Holds}
 
 -- A tree: what it has for each item, in the four lists, and what it has besides
@@ -34,6 +35,10 @@ tree_of holder visited excess parent f =
       next = f.next;
       mover = f.mover;
     }
+
+-- The same of a search
+abbrev pub tree_in : Search → Tree
+tree_in s = tree_of s.holders s.visited s.edges.excess s.edges.parents s.front
 
 -- Another bidder at which the path starts, as far as it is known
 abbrev pub moved_to : Front → ℕ → Front
@@ -69,6 +74,10 @@ pub record Remaining (visited left : List ℕ) (count : ℕ) : Type 0 where
   pub within : (j : ℕ) → j < count → (cells left j < max_items) × (flag_at visited (cells left j) ≡ false)
   pub all : (k : ℕ) → k < max_items → flag_at visited k ≡ false → (j : ℕ) × (j < count) × (cells left j ≡ k)
   pub once : (i j : ℕ) → i < count → j < count → cells left i ≡ cells left j → i ≡ j
+
+-- The items that a search has left are the unvisited ones
+abbrev pub Remains : Search → Type 0
+Remains s = Remaining s.visited s.left.items s.left.count
 
 -- Item k + 1's excess and parent, as the tree has them
 abbrev pub excess_at : Tree → ℕ → ℕ

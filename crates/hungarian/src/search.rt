@@ -3,104 +3,52 @@
 // The path is the parent links: from the item where it ends to its parent, from there to the item that the parent holds, and so to the root. The
 // recursion is the order in which items are reached. As it unwinds, each item whose holder moves on goes to its parent, so the holders shift along
 // the path and nothing else moves. Each item step but the last visits an item, so the number of unvisited items falls.
-ghost use Rattle.std.specs.Prelude.{◌≡◌, ◌+◌, ◌<◌, set};
+//
+// What remains is asked of both steps, and is no invariant of `Search`: it does not hold between the visit of an item and its removal.
+ghost use Rattle.std.specs.Prelude.{◌≡◌, ◌<◌};
 ghost use Rattle.duality.specs.Lists.{cells};
-ghost use Rattle.board.specs.Limits.{max_items, max_bidders};
-ghost use Rattle.hungarian.specs.Tree.{moved_to, tree_of, Remaining};
+ghost use Rattle.hungarian.specs.Tree.{tree_in, Remains};
 ghost use Rattle.hungarian.specs.Search.{BidderStart, NextStart, Ended};
 
-use crate::limits::{BIDDERS, ITEMS, WEIGHTS};
-use crate::tree::{Front, reach};
+use crate::limits::ITEMS;
+use crate::tree::{Cover, Search};
 
 // The bidder is reached. Then either a bidder of gain 0 is released, to be left out, or the tree goes on over a tight edge to an item.
 #[cycle(bidder_step_item_step)]
-pub(crate) fn bidder_step(
-    weights: &[u32; WEIGHTS],
-    price: &[u32; ITEMS],
-    gain: &[u32; BIDDERS],
-    bidder: usize,
-    holders: &mut [u8; ITEMS],
-    visited: &mut [u8; ITEMS],
-    left: &mut [u8; ITEMS],
-    count: usize,
-    excess: &mut [u32; ITEMS],
-    parents: &mut [u8; ITEMS],
-    front: Front,
-) -> Front
-    requires { BidderStart weights.now price.now gain.now bidder (tree_of holders.old visited.old excess.old parents.old front) ×
-        Remaining visited.old left.old count }
-    ensures { Ended weights.now price.now gain.now
-        (tree_of holders.old visited.old excess.old parents.old front)
-        (tree_of holders.new visited.new excess.new parents.new result) }
+pub(crate) fn bidder_step(cover: &Cover, search: &mut Search, bidder: usize)
+    requires start { BidderStart cover.now.weights.now cover.now.price.now cover.now.gain.now bidder (tree_in search.old) }
+    requires remains { Remains search.old }
+    ensures { Ended cover.now.weights.now cover.now.price.now cover.now.gain.now (tree_in search.old) (tree_in search.new) }
 {
-    let level = gain[bidder] + front.fall;
-    let f = reach(
-        front, left, count, excess, parents, weights, price, bidder, level,
-    );
-    if f.next == ITEMS {
-        return f;
+    let level = cover.gain[bidder] + search.front.fall;
+    search.reach(cover, bidder, level);
+    if search.front.next == ITEMS {
+        return;
     }
-    item_step(
-        weights, price, gain, holders, visited, left, count, excess, parents, f,
-    )
-}
-
-// The item goes to its parent, at which the path now starts.
-fn given(holders: &mut [u8; ITEMS], item: usize, parent: u8, front: Front) -> Front
-    requires { (item < max_items) × (parent < max_bidders) }
-    ensures { (holders.new ≡ set holders.old item (parent + 1)) × (result ≡ moved_to front parent) }
-{
-    let mut f = front;
-    holders[item] = parent + 1;
-    f.mover = parent;
-    f
+    item_step(cover, search);
 }
 
 // The next item is reached over the tight edge from its parent. A free item goes to the parent, and a held one too where its holder moves on.
 #[cycle(bidder_step_item_step)]
-fn item_step(
-    weights: &[u32; WEIGHTS],
-    price: &[u32; ITEMS],
-    gain: &[u32; BIDDERS],
-    holders: &mut [u8; ITEMS],
-    visited: &mut [u8; ITEMS],
-    left: &mut [u8; ITEMS],
-    count: usize,
-    excess: &mut [u32; ITEMS],
-    parents: &mut [u8; ITEMS],
-    front: Front,
-) -> Front
-    requires { NextStart weights.now price.now gain.now (tree_of holders.old visited.old excess.old parents.old front) ×
-        Remaining visited.old left.old count × (front.cell < count) × (cells left.old front.cell ≡ front.next) }
-    ensures { Ended weights.now price.now gain.now
-        (tree_of holders.old visited.old excess.old parents.old front)
-        (tree_of holders.new visited.new excess.new parents.new result) }
+fn item_step(cover: &Cover, search: &mut Search)
+    requires start { NextStart cover.now.weights.now cover.now.price.now cover.now.gain.now (tree_in search.old) }
+    requires remains { Remains search.old }
+    requires cell { search.old.front.cell < search.old.left.count }
+    requires next { cells search.old.left.items search.old.front.cell ≡ search.old.front.next }
+    ensures { Ended cover.now.weights.now cover.now.price.now cover.now.gain.now (tree_in search.old) (tree_in search.new) }
 {
-    let item = front.next;
-    let parent = parents[item];
-    let held = holders[item];
+    let item = search.front.next;
+    let parent = search.edges.parents[item];
+    let held = search.holders[item];
     if held == 0 {
-        return given(holders, item, parent, front);
+        search.give(item, parent);
+        return;
     }
-    visited[item] = 1;
-    let cell = front.cell;
-    left[cell] = left[count - 1];
+    search.visited[item] = 1;
+    search.left.remove(search.front.cell);
     let holder = held - 1;
-    let f = bidder_step(
-        weights,
-        price,
-        gain,
-        holder as usize,
-        holders,
-        visited,
-        left,
-        count - 1,
-        excess,
-        parents,
-        front,
-    );
-    if f.mover == holder {
-        return given(holders, item, parent, f);
+    bidder_step(cover, search, usize::from(holder));
+    if search.front.mover == holder {
+        search.give(item, parent);
     }
-    f
 }

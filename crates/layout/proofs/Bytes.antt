@@ -10,7 +10,7 @@ use Rattle.duality.specs.Decide.{all_below}
 use Rattle.duality.proofs.Decide.{all-decides, eq-decides}
 use Rattle.board.specs.Limits.{max_bidders}
 use Rattle.layout.specs.declared.row.Row.{Row}
-use Rattle.layout.specs.Limits.{rows_to_heading, line_bytes, page_bytes, max_page}
+use Rattle.layout.specs.Limits.{rows_to_heading, line_bytes, max_page}
 use Rattle.layout.specs.Row.{EachFits, RowsFit}
 use Rattle.layout.specs.Page.{heading, next_heading, row_line, breaks, headed, page_from, page_of}
 use Rattle.layout.specs.Written.{PageBytes}
@@ -55,6 +55,3 @@ page-bytes rows fit =
 
 pub page-most : (rows : List Row) → RowsFit rows → length (page_of rows) ≤ max_page
 page-most rows fit = omega (arith, page-bytes rows fit, fit.few)
-
-pub bytes-none : (n : ℕ) → n ≡ 0 → line_bytes ≡ page_bytes n
-bytes-none n e = rw e

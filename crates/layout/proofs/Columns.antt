@@ -1,7 +1,6 @@
 -- Laws of columns: what is printed in one has its width, no byte 10, and its value.
 use mathlib.Core.Path.{◌≡◌, refl, sym, ◌∙◌, ap}
 use Prim.Native.Nat.{ℕ, zero, suc, ◌+◌, ◌-◌, ◌/◌, ◌%◌, ◌^◌, ◌<◌, ◌≤◌}
-use native.Mathlib.Nat.{pow-suc, div-lt_iff_lt-mul}
 use native.Mathlib.Omega.{arith}
 use mathlib.Core.List.{List, [], ◌∷◌, ◌++◌, append_assoc}
 use lib.ListN.{length, drop, replicate, length-append, length-replicate}
@@ -73,20 +72,9 @@ padded-more width n h =
     let e : width - 1 - length (decimal (n / 10)) ≡ width - (length (decimal (n / 10)) + 1) = omega arith in
     rw (large n h, length-append (decimal (n / 10)) ((48 + n % 10) ∷ []), append_assoc (replicate (width - 1 - length (decimal (n / 10))) blank) (decimal (n / 10)) ((48 + n % 10) ∷ []), e)
 
--- a number of more than one digit takes more than one column
-pub tenth-room : (width n : ℕ) → 0 < width → 10 ≤ n → n < 10 ^ width → (0 < width - 1) × (n / 10 < 10 ^ (width - 1))
-tenth-room zero n p h l = absurd (omega arith)
-tenth-room (suc zero) n p h l = absurd (omega arith)
-tenth-room (suc (suc k)) n p h l =
-    let e : suc (suc k) - 1 ≡ suc k = omega arith in
-    (omega arith, rw e ((div-lt_iff_lt-mul {k = 10} (omega arith)).1 (rw (pow-suc 10 (suc k)) at l)))
-
 pub decimal-width : (width n : ℕ) → 0 < width → n < 10 ^ width → length (decimal n) ≤ width
 decimal-width zero n p h = absurd (omega arith)
 decimal-width (suc k) n p h = short k n h
-
-pub padded-length : (width n : ℕ) → 0 < width → n < 10 ^ width → length (padded width (decimal n)) ≡ width
-padded-length width n p h = length-padded width (decimal n) (decimal-width width n p h)
 
 -- ---- an item in its columns
 pub dashes : (k : ℕ) → k ≡ 0 → dash ∷ dash ∷ blank ∷ [] ≡ padded item_columns (item_text k) ++ (blank ∷ [])

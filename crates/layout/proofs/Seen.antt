@@ -1,184 +1,141 @@
 -- What code has read of a text, and what each step adds.
 use mathlib.Core.Path.{◌≡◌, refl, sym, ◌∙◌, ap}
-use Prim.Native.Nat.{ℕ, zero, suc, ◌+◌, ◌*◌, ◌-◌, ◌<◌, ◌≤◌}
+use Prim.Native.Nat.{ℕ, suc, ◌+◌, ◌*◌, ◌-◌, ◌<◌, ◌≤◌}
 use native.Mathlib.Numerals.{add-one}
 use native.Mathlib.Omega.{arith}
-use mathlib.Core.Bool.{Bool, true, false, false≢true}
-use mathlib.Core.List.{List, [], ◌∷◌}
-use lib.ListN.{length, take, drop, length-take, length-drop, drop_of_length-le}
-use lib.Seq.{drop-cons, drop-drop}
-use lib.Dec.{ltb}
-use borrow.Author.Tests.{ltb-true, ltb-false}
+use mathlib.Core.Bool.{Bool, true, false}
+use mathlib.Core.List.{List, [], ◌∷◌, ◌++◌, append_assoc}
+use lib.ListN.{length, take, drop, length-take, length-append}
+use lib.Dec.{eqb}
+use borrow.Author.Tests.{eqb-false}
 use Rattle.board.specs.Limits.{max_bidders}
 use Rattle.layout.specs.Limits.{line_bytes}
 use Rattle.layout.specs.declared.row.Row.{Row}
-use Rattle.layout.specs.Page.{heading, next_heading, breaks}
-use Rattle.layout.specs.Read.{Read, got, bad, equal, row_read, lined, checked, read_fixed, is_row, read_row, read_entry, unless_ended, read_rows, read_of}
-use Rattle.layout.specs.Seen.{rows_in, line_in, SeenIs, RowIs, passed, EntryIs}
-use Rattle.layout.proofs.Rows.{equal-true}
-use Rattle.layout.proofs.Fronts.{heading-length, row-short}
+use Rattle.layout.specs.Row.{row_fits}
+use Rattle.layout.specs.Page.{heading, next_heading, row_line, breaks}
+use Rattle.layout.specs.Read.{Read, got, bad, equal, row_read, lined, checked, read_fixed, is_row, read_row, read_entry, read_rows, read_of}
+use Rattle.layout.specs.Seen.{RowFront}
+use Rattle.layout.proofs.Rows.{equal-true, row-length}
+use Rattle.layout.proofs.Fronts.{heading-length}
 
--- ---- the line of a row
-row_room : (s : List ℕ) (at n : ℕ) → at ≤ length s → n ≤ max_bidders → is_row n (take line_bytes (drop at s)) ≡ true → at + line_bytes ≤ length s
-row_room s at n h l e = go (ltb (length s - at) line_bytes) refl
-  where
-    go : (t : Bool) → ltb (length s - at) line_bytes ≡ t → at + line_bytes ≤ length s
-    go true q = absurd (false≢true (row-short s at n l (ltb-true (length s - at) line_bytes q) ∙ e))
-    go false q = omega (arith, ltb-false (length s - at) line_bytes q)
-
-pub row_is_lem : (s : List ℕ) (at i : ℕ) → at ≤ length s → i < max_bidders → is_row (i + 1) (take line_bytes (drop at s)) ≡ true → RowIs s at i (at + line_bytes)
-unfolding read_row
-row_is_lem s at i h l e =
-    let q : is_row (suc i) (take line_bytes (drop at s)) ≡ true = rw (add-one i) at e in
-    record {
-      fails = λ z. absurd (omega arith);
-      passes = λ z. (refl, row_room s at (i + 1) h (omega arith) e, λ f. (row_read (take line_bytes (drop at s)), rw (q, drop-drop line_bytes at s)));
-    }
-
-pub row-not : (s : List ℕ) (at i : ℕ) → is_row (i + 1) (take line_bytes (drop at s)) ≡ false → RowIs s at i 0
-unfolding read_row
-row-not s at i e =
-    let q : is_row (suc i) (take line_bytes (drop at s)) ≡ false = rw (add-one i) at e in
-    record { fails = λ z f. rw q; passes = λ z. absurd (omega arith) }
-
--- ---- an entry
 pub next-length : length next_heading ≡ line_bytes + 1
 next-length = ap suc heading-length
 
-next-reads : (s : List ℕ) (at : ℕ) (f : List ℕ → Read) (t : Bool) → equal (take (line_bytes + 1) (drop at s)) next_heading ≡ t
-    → read_fixed next_heading f (drop at s) ≡ checked t (λ rs. rs) f (drop (at + line_bytes + 1) s)
+next-reads : (s : List ℕ) (f : List ℕ → Read) (t : Bool) → equal (take (line_bytes + 1) s) next_heading ≡ t → read_fixed next_heading f s ≡ checked t (λ rs. rs) f (drop (line_bytes + 1) s)
 unfolding read_fixed
-next-reads s at f t e =
-    let q : at + (line_bytes + 1) ≡ at + line_bytes + 1 = omega arith in
-    rw (next-length, e, drop-drop (line_bytes + 1) at s, q)
+next-reads s f t e =
+    ap (λ (n : ℕ). checked (equal (take n s) next_heading) (λ rs. rs) f (drop n s)) next-length
+    ∙ ap (λ (b : Bool). checked b (λ rs. rs) f (drop (line_bytes + 1) s)) e
 
-pub next-room : (s : List ℕ) (at : ℕ) → at < length s → equal (take (line_bytes + 1) (drop at s)) next_heading ≡ true → at + line_bytes + 1 ≤ length s
-next-room s at h e =
-    let q : length (take (line_bytes + 1) (drop at s)) ≡ line_bytes + 1 = ap length (equal-true (take (line_bytes + 1) (drop at s)) next_heading e) ∙ next-length in
-    omega (arith, simp (length-take, length-drop) at q)
+-- ---- the line of a row
+-- a text that is too short for a line
+pub row-short : (s : List ℕ) (n : ℕ) → n ≤ max_bidders → length s < line_bytes → is_row n (take line_bytes s) ≡ false
+row-short s n l h = go (row_fits r) refl (equal line (row_line n r)) refl
+  where
+    line : List ℕ
+    line = take line_bytes s
 
-pass-one : (r : Row) (o : Read) → lined (λ rs. r ∷ rs) o ≡ passed 1 r o
-pass-one r (got rs) = refl
-pass-one r (bad j) = ap bad (omega arith)
+    r : Row
+    r = row_read line
 
-pass-two : (r : Row) (o : Read) → lined (λ rs. rs) (lined (λ rs. r ∷ rs) o) ≡ passed 2 r o
-pass-two r (got rs) = refl
-pass-two r (bad j) = ap bad (omega arith)
+    go : (t : Bool) → row_fits r ≡ t → (u : Bool) → equal line (row_line n r) ≡ u → is_row n line ≡ false
+    go false f u e = rw f
+    go true f false e = rw (f, e)
+    go true f true e =
+        let q : length (take line_bytes s) ≡ line_bytes = ap length (equal-true line (row_line n r) e) ∙ row-length n r l f in
+        absurd (omega (arith, simp length-take at q))
 
-pub entry_row : (s : List ℕ) (at i next : ℕ) → breaks i ≡ false → RowIs s at i next → EntryIs s at i 1 next
-entry_row s at i next e w = record {
-  few = omega arith;
-  fails = λ z f. rw e (w.fails z f);
-  passes = λ z. let p = w.passes z in (omega (arith, p.0), p.1, λ f. let (r, q) = p.2 f in (r, rw e (q ∙ pass-one r (f (drop next s)))));
-}
+-- ---- tests of the loop
+pub some-left : (n : ℕ) → false ≡ eqb n 0 → 0 < n
+some-left n e = omega (arith, eqb-false n 0 (sym e))
 
-pub entry-none : (s : List ℕ) (at i : ℕ) → breaks i ≡ true → equal (take (line_bytes + 1) (drop at s)) next_heading ≡ false → EntryIs s at i 1 0
-entry-none s at i e h = record {
-  few = omega arith;
-  fails = λ z f. rw e (next-reads s at (λ t. read_row (suc i) f t) false h);
-  passes = λ z. absurd (omega arith);
-}
-
-pub entry-headed : (s : List ℕ) (at i next : ℕ) → breaks i ≡ true → equal (take (line_bytes + 1) (drop at s)) next_heading ≡ true → RowIs s (at + line_bytes + 1) i next → EntryIs s at i 2 next
-entry-headed s at i next e h w = record {
-  few = omega arith;
-  fails = λ z f. rw e (next-reads s at (λ t. read_row (suc i) f t) true h ∙ ap (lined (λ rs. rs)) (w.fails z f));
-  passes = λ z. let p = w.passes z in (
-    omega (arith, p.0),
-    p.1,
-    λ f. let (r, q) = p.2 f in (r, rw e (next-reads s at (λ t. read_row (suc i) f t) true h ∙ (ap (lined (λ rs. rs)) q ∙ pass-two r (f (drop next s))))),
-  );
-}
+pub not-full : (n m : ℕ) → false ≡ eqb n m → n ≤ m → n < m
+not-full n m e h = omega (arith, eqb-false n m (sym e))
 
 -- ---- rows so far
-abbrev rows_after : ℕ → Read → ℕ
-rows_after i (got rs) = i + length rs
-rows_after i (bad j) = 0
+-- what is read after so many lines with these rows
+abbrev pub after : List Row → ℕ → Read → Read
+after rows lines (got rs) = got (rows ++ rs)
+after rows lines (bad j) = bad (lines + j)
 
-abbrev line_after : ℕ → Read → ℕ
-line_after line (got rs) = 0
-line_after line (bad j) = line + j
+-- the rows that are read after one more
+abbrev more : ℕ → List ℕ → Read
+more i t = read_rows (max_bidders - suc i) (suc i) t
 
-pub record Going (s : List ℕ) (at i line : ℕ) : Type 0 where
-  pub few : i ≤ max_bidders
-  pub lines : line ≤ 1 + 2 * i
-  pub rows : rows_in (read_of s) ≡ rows_after i (read_rows (max_bidders - i) i (drop at s))
-  pub bads : line_in (read_of s) ≡ line_after line (read_rows (max_bidders - i) i (drop at s))
+-- so many good lines have these rows, and `rest` comes next
+pub record Going (s : List ℕ) (rest : List ℕ) (rows : List Row) (lines : ℕ) : Type 0 where
+  pub few : lines ≤ 1 + 2 * length rows
+  pub reads : read_of s ≡ after rows lines (read_rows (max_bidders - length rows) (length rows) rest)
 
-start-reads : (s : List ℕ) (t : Bool) → equal (take line_bytes s) heading ≡ t → read_of s ≡ checked t (λ rs. rs) (λ x. read_rows max_bidders 0 x) (drop line_bytes s)
+-- the same, and the line of a row comes next
+pub record Due (s : List ℕ) (rest : List ℕ) (rows : List Row) (lines : ℕ) : Type 0 where
+  pub few : lines ≤ 2 + 2 * length rows
+  pub reads : read_of s ≡ after rows lines (read_row (suc (length rows)) (more (length rows)) rest)
+
+pub heading-fails : (s : List ℕ) → equal (take line_bytes s) heading ≡ false → read_of s ≡ bad 1
 unfolding read_of read_fixed
-start-reads s t e = rw (heading-length, e)
+heading-fails s e = rw (heading-length, e)
 
-pub seen-heading : (s : List ℕ) → equal (take line_bytes s) heading ≡ false → SeenIs s 0 1
-seen-heading s e = let q = start-reads s false e in record { rows = rw q; line = rw q }
-
-pub going_start : (s : List ℕ) → equal (take line_bytes s) heading ≡ true → Going s line_bytes 0 1
-going_start s e =
-    let q = start-reads s true e in
-    let o = read_rows max_bidders 0 (drop line_bytes s) in
-    record { few = omega arith; lines = omega arith; rows = ap rows_in q ∙ some o; bads = ap line_in q ∙ one o }
+pub heading-passes : (s : List ℕ) → equal (take line_bytes s) heading ≡ true → Going s (drop line_bytes s) [] 1
+unfolding read_of read_fixed
+heading-passes s e = record { few = omega arith; reads = rw (heading-length, e) (go (read_rows max_bidders 0 (drop line_bytes s))) }
   where
-    some : (o : Read) → rows_in (lined (λ rs. rs) o) ≡ rows_after 0 o
-    some (got rs) = omega arith
-    some (bad j) = refl
+    go : (o : Read) → lined (λ rs. rs) o ≡ after [] 1 o
+    go (got rs) = refl
+    go (bad j) = ap bad (omega arith)
 
-    one : (o : Read) → line_in (lined (λ rs. rs) o) ≡ line_after 1 o
-    one (got rs) = refl
-    one (bad j) = omega arith
-
-not-ended : (s : List ℕ) (at : ℕ) (o : Read) → at < length s → unless_ended (drop at s) o ≡ o
-not-ended s at o h = rw (drop-cons s at 0 h)
-
-module _ {s : List ℕ} {at i line : ℕ} (w : Going s at i line) where
-  pub going_end : length s ≤ at → SeenIs s i 0
-  going_end h = record { rows = sym (w.rows ∙ (ap (rows_after i) ends ∙ omega arith)); line = sym (w.bads ∙ ap (line_after line) ends) }
+module _ {s rest : List ℕ} {rows : List Row} {lines : ℕ} where
+  -- an entry comes next
+  entry : Going s rest rows lines → 0 < length rest → length rows < max_bidders →
+      read_of s ≡ after rows lines (read_entry (breaks (length rows)) (suc (length rows)) (more (length rows)) rest)
+  entry w h l = w.reads ∙ go rest h
     where
-      all : (left : ℕ) → read_rows left i [] ≡ got []
-      all zero = refl
-      all (suc left) = refl
+      go : (t : List ℕ) → 0 < length t → after rows lines (read_rows (max_bidders - length rows) (length rows) t)
+          ≡ after rows lines (read_entry (breaks (length rows)) (suc (length rows)) (more (length rows)) t)
+      go [] k = absurd (omega arith)
+      go (b ∷ bs) k =
+          let e : max_bidders - length rows ≡ suc (max_bidders - suc (length rows)) = omega arith in
+          rw e
 
-      ends : read_rows (max_bidders - i) i (drop at s) ≡ got []
-      ends = ap (read_rows (max_bidders - i) i) (drop_of_length-le s {i = at} h) ∙ all (max_bidders - i)
+  pub going-plain : Going s rest rows lines → 0 < length rest → length rows < max_bidders → breaks (length rows) ≡ false → Due s rest rows lines
+  going-plain w h l e = record { few = omega (arith, w.few); reads = entry w h l ∙ rw e }
 
-  module _ (h : at < length s) where
-    pub going-full : max_bidders ≤ i → SeenIs s 0 (line + 1)
-    going-full l =
-        let e : max_bidders - i ≡ 0 = omega arith in
-        let q : read_rows (max_bidders - i) i (drop at s) ≡ bad 1 = ap (λ (k : ℕ). read_rows k i (drop at s)) e ∙ not-ended s at (bad 1) h in
-        record { rows = sym (w.rows ∙ ap (rows_after i) q); line = sym (w.bads ∙ ap (line_after line) q) }
+  pub going-headed : Going s rest rows lines → 0 < length rest → length rows < max_bidders → breaks (length rows) ≡ true
+      → equal (take (line_bytes + 1) rest) next_heading ≡ true → Due s (drop (line_bytes + 1) rest) rows (lines + 1)
+  going-headed w h l e q =
+      let n = next-reads rest (λ t. read_row (suc (length rows)) (more (length rows)) t) true q in
+      record {
+        few = omega (arith, w.few);
+        reads = entry w h l ∙ rw e (ap (after rows lines) n ∙ go (read_row (suc (length rows)) (more (length rows)) (drop (line_bytes + 1) rest)));
+      }
+    where
+      go : (o : Read) → after rows lines (lined (λ rs. rs) o) ≡ after rows (lines + 1) o
+      go (got rs) = refl
+      go (bad j) = ap bad (omega arith)
 
-    module _ (l : i < max_bidders) (lines next : ℕ) (entry : EntryIs s at i lines next) where
-      after : List ℕ → Read
-      after t = read_rows (max_bidders - (i + 1)) (suc i) t
+  -- The same of what the reader goes on with
+  pub headed-due : (r : List ℕ) → Going s rest rows lines → 0 < length rest → length rows < max_bidders → breaks (length rows) ≡ true
+      → equal (take (line_bytes + 1) rest) next_heading ≡ true → r ≡ drop (line_bytes + 1) rest → Due s r rows (lines + 1)
+  headed-due r w h l e q d = rw d (going-headed w h l e q)
 
-      here : read_rows (max_bidders - i) i (drop at s) ≡ read_entry (breaks i) (suc i) after (drop at s)
-      unfolding after
-      here =
-          let e : max_bidders - i ≡ suc (max_bidders - (i + 1)) = omega arith in
-          ap (λ (k : ℕ). read_rows k i (drop at s)) e ∙ not-ended s at (read_entry (breaks i) (suc i) after (drop at s)) h
+  pub going-unheaded : Going s rest rows lines → 0 < length rest → length rows < max_bidders → breaks (length rows) ≡ true
+      → equal (take (line_bytes + 1) rest) next_heading ≡ false → read_of s ≡ bad (lines + 1)
+  going-unheaded w h l e q =
+      entry w h l ∙ rw e (ap (after rows lines) (next-reads rest (λ t. read_row (suc (length rows)) (more (length rows)) t) false q))
 
-      pub going-fails : next ≡ 0 → SeenIs s 0 (line + lines)
-      going-fails z =
-          let q = here ∙ entry.fails z after in
-          record { rows = sym (w.rows ∙ ap (rows_after i) q); line = sym (w.bads ∙ ap (line_after line) q) }
+  pub due-fails : Due s rest rows lines → is_row (length rows + 1) (take line_bytes rest) ≡ false → read_of s ≡ bad (lines + 1)
+  unfolding read_row
+  due-fails w e = w.reads ∙ rw (rw add-one at e)
 
-      pub going_more : 0 < next → Going s next (i + 1) (line + lines)
-      unfolding after
-      going_more z =
-          let (r, e) = (entry.passes z).2 after in
-          let q = here ∙ e in
-          let o = read_rows (max_bidders - (i + 1)) (suc i) (drop next s) in
-          record {
-            few = omega arith;
-            lines = omega (arith, w.lines, entry.few);
-            rows = w.rows ∙ (ap (rows_after i) q ∙ (one-row r o ∙ rw (add-one i)));
-            bads = w.bads ∙ (ap (line_after line) q ∙ (some-lines r o ∙ rw (add-one i)));
-          }
-        where
-          one-row : (r : Row) (o : Read) → rows_after i (passed lines r o) ≡ rows_after (i + 1) o
-          one-row r (got rs) = omega arith
-          one-row r (bad j) = refl
-
-          some-lines : (r : Row) (o : Read) → line_after line (passed lines r o) ≡ line_after (line + lines) o
-          some-lines r (got rs) = refl
-          some-lines r (bad j) = omega arith
+  pub due-passes : {r : Row} {next : List ℕ} → Due s rest rows lines → RowFront rest (length rows + 1) r next → Going s next (rows ++ (r ∷ [])) (lines + 1)
+  unfolding read_row
+  due-passes {r} {next} w f =
+      let n : length (rows ++ (r ∷ [])) ≡ suc (length rows) = length-append rows (r ∷ []) ∙ omega arith in
+      record {
+        few = omega (arith, w.few, n);
+        reads = w.reads ∙ rw (rw add-one at f.is, ← f.read, ← f.after, n) (go (more (length rows) next));
+      }
+    where
+      go : (o : Read) → after rows lines (lined (λ rs. r ∷ rs) o) ≡ after (rows ++ (r ∷ [])) (lines + 1) o
+      go (got rs) = ap got (sym (append_assoc rows (r ∷ []) rs))
+      go (bad j) = ap bad (omega arith)

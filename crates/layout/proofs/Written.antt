@@ -6,23 +6,18 @@ use native.Mathlib.Numerals.{add-one}
 use native.Mathlib.Omega.{arith}
 use mathlib.Core.Bool.{Bool, true, false}
 use mathlib.Core.List.{List, [], ◌∷◌, ◌++◌, append_assoc, append-nil}
-use lib.ListN.{length, get_or, take, length-append, get_or-append}
-use lib.Seq.{take-suc, get_or-append_seam}
+use lib.ListN.{length, get_or, length-append, get_or-append}
+use lib.Seq.{get_or-append_seam}
 use Rattle.duality.proofs.Below.{one_more}
-use Rattle.layout.specs.Limits.{feed}
 use Rattle.layout.specs.declared.row.Row.{Row}
 use Rattle.layout.specs.Row.{row_fits, EachFits, RowsFit}
 use Rattle.layout.specs.Page.{heading, next_heading, headed, breaks, row_line, page_from, page_of}
 use Rattle.layout.specs.Written.{rows_of, Writable, WrittenReads}
 use Rattle.layout.proofs.Statements.{page-reads}
 
--- one byte more
-pub take_more : (l : List ℕ) (i : ℕ) → i < length l → take i l ++ (get_or l i 0 ∷ []) ≡ take (i + 1) l
-take_more l i h = sym (take-suc l i 0 h) ∙ rw (add-one i)
-
 -- the heading that may be due
-pub break-due : (i : ℕ) (line : List ℕ) → breaks i ≡ true → line ≡ heading → (feed ∷ []) ++ line ≡ headed (breaks i) []
-break-due i line e h = rw (e, h) (ap (λ (l : List ℕ). feed ∷ l) (sym (append-nil heading)))
+pub break-due : (i : ℕ) (line : List ℕ) → line ≡ next_heading → breaks i ≡ true → line ≡ headed (breaks i) []
+break-due i line h e = rw (e, h) (sym (append-nil next_heading))
 
 pub break-none : (i : ℕ) → breaks i ≡ false → [] ≡ headed (breaks i) []
 break-none i e = rw e

@@ -1,5 +1,6 @@
 -- What reading a page answers, line by line and column by column.
-use Rattle.std.specs.Prelude.{ℕ, zero, suc, ◌+◌, Bool, true, false, ◌&&◌, List, [], ◌∷◌, length, take, drop, eqb}
+use Rattle.std.specs.Prelude.{ℕ, zero, suc, ◌+◌, Bool, true, false, ◌&&◌, List, [], ◌∷◌, length, take, drop}
+use Rattle.std.specs.Str.{bytes_eq}
 use Rattle.text.specs.Number.{value_of}
 use Rattle.board.specs.Limits.{max_bidders}
 use Rattle.layout.specs.Limits.{number_columns, item_columns, weight_columns, gain_columns, line_bytes}
@@ -13,10 +14,7 @@ pub data Read : Type 0 where
   bad : ℕ → Read
 
 abbrev pub equal : List ℕ → List ℕ → Bool
-equal [] [] = true
-equal [] (y ∷ ys) = false
-equal (x ∷ xs) [] = false
-equal (x ∷ xs) (y ∷ ys) = eqb x y && equal xs ys
+equal = bytes_eq
 
 -- the number in a column at the front: blanks and dashes count as 0, being below the digits
 abbrev pub column_value : ℕ → List ℕ → ℕ

@@ -1,10 +1,8 @@
 -- The rows of a page, as three lists that a caller lends: items, weights and gains.
-use Rattle.std.specs.Prelude.{cond, List, [], ℕ, ◌+◌, get_or}
+use Rattle.std.specs.Prelude.{List, [], ℕ, get_or}
 use Rattle.board.specs.Lent.{written}
 use Rattle.layout.specs.declared.row.Row.{Row}
-use Rattle.layout.specs.Limits.{line_bytes}
 use Rattle.layout.specs.Row.{unplaced}
-use Rattle.layout.specs.Page.{breaks}
 use Rattle.layout.specs.Read.{Read, got, bad}
 
 -- The rows that a text is the page of, and none where it is none
@@ -38,7 +36,3 @@ rows_stored n rows l = row_lists (written n (row_item rows) l.plan) (written n (
 -- The same of what is read
 abbrev pub stored_lists : ℕ → Read → RowLists → RowLists
 stored_lists n r l = rows_stored n (rows_got r) l
-
--- Where row i + 1 begins, at the position after row i: past the heading that may be due
-abbrev pub start_at : ℕ → ℕ → ℕ
-start_at at i = cond (breaks i) (at + line_bytes + 1) at

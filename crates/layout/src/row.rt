@@ -4,8 +4,8 @@ ghost use Rattle.layout.specs.Row.{row_fits};
 
 use board::record::Auction;
 
-// Where a bidder stands, 0 for no item, with its weight there and its gain. Document 02: kettle, worth and gain of a batch.
-#[derive(Clone, Copy)]
+// Where a bidder stands, 0 for no item (as `row_fits` has it, and a plan), with its weight there and its gain. Document 02: kettle, worth and gain of a batch.
+#[derive(Clone, Copy, Default)]
 pub struct Row {
     pub item: u64,
     pub weight: u64,
@@ -19,20 +19,9 @@ pub const MAX_GAIN: u64 = 2000000000;
 pub(crate) fn fits(row: Row) -> bool
     ensures { result ≡ row_fits row }
 {
-    if row.item == 0 {
-        if row.weight != 0 {
-            return false;
-        }
-        return row.gain == 0;
-    }
-    if (Auction::MAX_ITEMS as u64) < row.item {
-        return false;
-    }
-    if row.weight == 0 {
-        return false;
-    }
-    if Auction::MAX_WEIGHT < row.weight {
-        return false;
-    }
-    row.gain <= MAX_GAIN
+    let is_unplaced = row.item == 0 && row.weight == 0 && row.gain == 0;
+    let is_placed = (1..=Auction::MAX_ITEMS as u64).contains(&row.item)
+        && (1..=Auction::MAX_WEIGHT).contains(&row.weight)
+        && row.gain <= MAX_GAIN;
+    is_unplaced || is_placed
 }

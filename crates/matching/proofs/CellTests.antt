@@ -1,31 +1,13 @@
 -- The test of a cell, as the code asks it part by part.
 use mathlib.Core.Path.{◌≡◌, refl}
-use mathlib.Core.Bool.{true, false}
-use Prim.Native.Nat.{ℕ, zero, suc, ◌-◌, ◌≤◌, ◌<◌}
+use Prim.Native.Nat.{ℕ, zero, suc, ◌-◌, ◌≤◌}
 use native.Mathlib.Omega.{arith}
 use lib.Dec.{eqb, ltb}
-use borrow.Author.Tests.{lt-ltb, le-ltb}
+use borrow.Author.Tests.{lt-ltb}
 use Rattle.places.specs.Places.{count_to}
 use Rattle.places.specs.PlanTest.{cell_test_with}
 
 module _ (m : ℕ) (count : ℕ → ℕ) (w : ℕ → ℕ → ℕ) (plan : ℕ → ℕ) (i : ℕ) where
-  pub cell-none : (c : ℕ) → c ≡ 0 → true ≡ cell_test_with m count w plan i c
-  unfolding cell_test_with
-  cell-none c e = rw e
-
-  pub cell-unknown : (c : ℕ) → m < c → false ≡ cell_test_with m count w plan i c
-  unfolding cell_test_with
-  cell-unknown zero l = absurd (omega arith)
-  cell-unknown (suc k) l = rw (le-ltb k m (omega arith))
-
-  pub cell-edgeless : (c : ℕ) → (c ≡ 0 → ⊥) → c ≤ m → w i (c - 1) ≡ 0 → false ≡ cell_test_with m count w plan i c
-  unfolding cell_test_with
-  cell-edgeless zero ne l e = absurd (ne refl)
-  cell-edgeless (suc k) ne l e =
-      let s : suc k - 1 ≡ k = omega arith in
-      let z : w i k ≡ 0 = rw s at e in
-      rw (lt-ltb k m l, z)
-
   -- What is left to ask: whether the item has more places than bidders named it
   pub cell-left : (c n p : ℕ) → (c ≡ 0 → ⊥) → c ≤ m → (w i (c - 1) ≡ 0 → ⊥) → n ≡ count_to i (λ h. eqb (plan h) c) → p ≡ count (c - 1) →
       ltb n p ≡ cell_test_with m count w plan i c

@@ -7,7 +7,7 @@ use lib.ListN.{get_or}
 use Rattle.board.specs.Limits.{max_items}
 use Rattle.board.proofs.SoundLaw.{live_on}
 use Rattle.board.proofs.Filed.{row-cell}
-use Rattle.board.proofs.Tests.{flag-on, flag_off}
+use Rattle.board.proofs.Tests.{flag_off}
 use Rattle.supply.specs.declared.record.Items.{Items}
 use Rattle.supply.specs.Board.{start_in}
 use Rattle.supply.specs.ByItem.{live_by}
@@ -17,13 +17,7 @@ module _ {items : Items} {starts : List ℕ} (h : Located items starts) (k : ℕ
   pub first_below : get_or starts k 0 < max_items
   first_below = omega (arith, h.first k l, h.below k l)
 
-  -- A withdrawn item has no live edge
-  pub live-gone : (withdrawn weights : List ℕ) (i : ℕ) → (get_or withdrawn (get_or starts k 0) 0 ≡ 0 → ⊥) → 0 ≡ live_by items withdrawn weights i k
-  live-gone withdrawn weights i ne =
-      let off : get_or withdrawn (start_in items k) 0 ≡ 0 → ⊥ = rw (h.first k l) at ne in
-      rw (flag-on _ off)
-
-  -- Otherwise its edge weighs what stands at its first place
+  -- An edge that is live weighs what stands at its first place
   pub live-cell : (withdrawn weights : List ℕ) (i w : ℕ) → get_or withdrawn (get_or starts k 0) 0 ≡ 0 → w ≡ get_or weights (i * max_items + get_or starts k 0) 0 →
       w ≡ live_by items withdrawn weights i k
   live-cell withdrawn weights i w e is =

@@ -1,12 +1,11 @@
--- A plan's cells are items of the board, and no plan of a sound board weighs more than 64 edges of the greatest weight.
+-- No plan of a sound board weighs more than 64 edges of the greatest weight.
 use mathlib.Core.Path.{◌≡◌, refl}
-use Prim.Native.Nat.{ℕ, zero, suc, ◌*◌, ◌≤◌, ◌<◌}
+use Prim.Native.Nat.{ℕ, zero, suc, ◌*◌, ◌≤◌}
 use native.Mathlib.Nat.{mul-le-mul, le_refl}
 use native.Mathlib.Omega.{arith}
 use Rattle.duality.specs.Sums.{sum_to}
 use Rattle.duality.specs.Lists.{cells}
 use Rattle.duality.proofs.Sums.{sum_to-zero}
-use Rattle.places.specs.Plan.{IsPlan}
 use Rattle.places.proofs.WeakDualityWith.{weak-duality-with}
 use Rattle.board.specs.Limits.{max_items, max_weight}
 use Rattle.board.proofs.Light.{live-within}
@@ -14,14 +13,6 @@ use Rattle.supply.specs.Board.{auction_of, places_at, all_places, start_in}
 use Rattle.supply.specs.ByItem.{live}
 use Rattle.supply.proofs.Shaping.{sound-fits}
 use Rattle.matching.specs.Plans.{PlansWithin}
-
--- A plan's cells are items of the board, or 0
-pub cell-within : {n m : ℕ} {count : ℕ → ℕ} {w : ℕ → ℕ → ℕ} {plan : ℕ → ℕ} → IsPlan n m count w plan → (i : ℕ) → i < n → plan i ≤ m
-cell-within {m = m} {plan = plan} h i l = go (plan i) refl
-  where
-    go : (c : ℕ) → plan i ≡ c → c ≤ m
-    go zero e = omega arith
-    go (suc k) e = (h.along i k l e).0
 
 -- One price at every place
 sum_alike : (m x : ℕ) (count : ℕ → ℕ) → sum_to m (λ k. count k * x) ≡ sum_to m count * x

@@ -1,10 +1,9 @@
 -- Refusal 10: a cell of a matching that was made elsewhere (document 01: a plan), against a board's live edges.
-use Rattle.std.specs.Prelude.{◌≡◌, true, not, List, ◌↔◌, ℕ, suc, ◌≤◌, ◌<◌}
+use Rattle.std.specs.Prelude.{◌≡◌, true, not, List, ◌↔◌, ℕ, suc, ◌≤◌, ◌<◌, Ok}
 use Rattle.duality.specs.Decide.{Decides}
 use Rattle.places.specs.Plan.{namers, IsPlan}
 use Rattle.places.specs.PlanTest.{cell_test_with}
 use Rattle.refusals.specs.declared.Refusal.TheVariants.{Clash}
-use Rattle.refusals.specs.declared.Verdict.TheVariants.{Served}
 use Rattle.refusals.specs.Demand1.{Check, first_of}
 use Rattle.refusals.specs.Each.{cell_checks}
 use Rattle.supply.specs.declared.record.Board.{Board}
@@ -34,4 +33,4 @@ ClashesTested = (b : Board) (plan : ℕ → ℕ) (i : ℕ) → Decides (not (cel
 -- once per place"
 abbrev pub UnclashedMatches : Type 0
 UnclashedMatches =
-    (n items : ℕ) (count : ℕ → ℕ) (w : ℕ → ℕ → ℕ) (plan : ℕ → ℕ) → (first_of (clash_checks items count w plan n) ≡ Served) ↔ IsPlan n items count w plan
+    (n items : ℕ) (count : ℕ → ℕ) (w : ℕ → ℕ → ℕ) (plan : ℕ → ℕ) → (first_of (clash_checks items count w plan n) ≡ Ok tt) ↔ IsPlan n items count w plan

@@ -1,4 +1,5 @@
 -- What the two calls answer, case by case, and that what was written reads back.
+use Rattle.std.specs.Prelude.{Result, Err, Ok}
 use mathlib.Core.Path.{◌≡◌, refl, sym, ◌∙◌, ap, subst}
 use mathlib.Core.Bool.{Bool, true, false}
 use mathlib.Core.Logic.{by_cases}
@@ -10,9 +11,8 @@ use lib.ListN.{length, take, drop, get_or}
 use lib.Seq.{take_at}
 use borrow.Author.Tests.{not-false}
 use Rattle.duality.proofs.Decide.{clash, false-is}
-use Rattle.refusals.specs.declared.Verdict.{Verdict}
-use Rattle.refusals.specs.declared.Verdict.TheVariants.{Served, Refused}
-use Rattle.refusals.specs.Demand1.{first_of}
+use Rattle.refusals.specs.declared.Refusal.{Refusal}
+use Rattle.refusals.specs.Demand1.{first_of, Verdict}
 use Rattle.refusals.proofs.Verdicts.{served-next}
 use Rattle.supply.specs.declared.record.Board.{Board}
 use Rattle.board.specs.Limits.{max_text}
@@ -26,13 +26,10 @@ use Rattle.layout.specs.declared.row.Row.{Row}
 use Rattle.layout.specs.Row.{unplaced}
 use Rattle.layout.specs.Page.{IsPageOf}
 use Rattle.layout.specs.Read.{Read, got, bad, read_of}
-use Rattle.layout.specs.Seen.{rows_in, SeenIs}
 use Rattle.layout.specs.Stored.{RowLists, row_lists, rows_stored}
-use Rattle.layout.proofs.Statements.{read-is-page, read-is-first-bad, bad-some}
+use Rattle.layout.proofs.Statements.{read-is-page, read-is-first-bad}
 use Rattle.layout.proofs.Written.{length-rows, rows_at}
 use Rattle.layout.proofs.Bytes.{page-most}
-use Rattle.page.specs.declared.writing.PageWritten.{PageWritten}
-use Rattle.page.specs.declared.reading.PageRead.{PageRead}
 use Rattle.page.specs.Rows.{weight_held, board_row, board_rows, board_page}
 use Rattle.page.specs.Writing.{WriteOutcome, wrote, write_checks, page_over, write_by, write_page_of}
 use Rattle.page.specs.Reading.{RowsOutcome, Room, room_for, read, read_page_of}
@@ -45,23 +42,19 @@ use Rattle.page.proofs.WriteLaws.{write-spoilt, write-short, served-as}
 page-short : {s : List ℕ} {rows : List Row} → IsPageOf s rows → length s ≤ max_text
 page-short {s} {rows} p = omega (arith, ap length p.is, page-most rows p.fit)
 
-page-served : (s : List ℕ) (l : RowLists) (rows : List Row) → IsPageOf s rows → Room (length rows) l → read_page_of s l ≡ read (PageRead.Rows (length rows)) (rows_stored (length rows) rows l)
+page-served : (s : List ℕ) (l : RowLists) (rows : List Row) → IsPageOf s rows → Room (length rows) l → read_page_of s l ≡ read (Ok (length rows)) (rows_stored (length rows) rows l)
 page-served s l rows p room =
     let e : read_of s ≡ got rows = (read-is-page s rows).1 p in
-    let seen : SeenIs s (length rows) 0 = record { rows = sym (ap rows_in e); line = rw e } in
-    sym (read-served s l (page-short p) seen refl ((room-decides (length rows) l).complete room) (rw e))
+    sym (read-served s l (page-short p) e ((room-decides (length rows) l).complete room) refl)
 
 -- Each answer from what is so, and back by what is so of every text
 reads_at : (s : List ℕ) (l : RowLists) {o : RowsOutcome} → ReadsAs s l o → read_page_of s l ≡ o
 reads_at s l (ReadsAs.long h) = sym (read-long s l h)
 reads_at s l (ReadsAs.line {j = j} h b) =
-    let e = (read-is-first-bad s j).1 b in
-    let seen : SeenIs s 0 j = record { rows = rw e; line = rw e } in
-    sym (read-line s l h seen (bad-some s j e))
+    sym (read-line s l h ((read-is-first-bad s j).1 b))
 reads_at s l (ReadsAs.short {rows = rows} p f) =
     let e : read_of s ≡ got rows = (read-is-page s rows).1 p in
-    let seen : SeenIs s (length rows) 0 = record { rows = sym (ap rows_in e); line = rw e } in
-    sym (read_short s l (page-short p) seen refl (sym (false-is _ (room-decides (length rows) l) f)))
+    sym (read_short s l (page-short p) e (sym (false-is _ (room-decides (length rows) l) f)))
 reads_at s l (ReadsAs.rows {rows = rows} p room) = page-served s l rows p room
 
 reads-one : (s : List ℕ) (l : RowLists) → (o : RowsOutcome) × ReadsAs s l o
@@ -100,18 +93,18 @@ writes-said b page o = (λ e. let (x, w) = writes_one b page in subst (WritesAs 
 -- ---- What was written reads back
 module _ (b : Board) (page : List ℕ) where
   -- a page is written of sound boards only
-  write-open : {after : List ℕ} {n : ℕ} → write_page_of b page ≡ wrote (PageWritten.Bytes n) after → Sound b × (n ≡ length (board_page b)) × (after ≡ page_over b page)
+  write-open : {after : List ℕ} {n : ℕ} → write_page_of b page ≡ wrote (Ok n) after → Sound b × (n ≡ length (board_page b)) × (after ≡ page_over b page)
   unfolding write_page_of write_by
   write-open {after} {n} e = go (first_of (write_checks b (length page))) refl e
     where
-      go : (v : Verdict) → first_of (write_checks b (length page)) ≡ v → write_by b page v ≡ wrote (PageWritten.Bytes n) after →
+      go : (v : Verdict) → first_of (write_checks b (length page)) ≡ v → write_by b page v ≡ wrote (Ok n) after →
           Sound b × (n ≡ length (board_page b)) × (after ≡ page_over b page)
-      go Served q e =
-          let a : PageWritten.Bytes (length (board_page b)) ≡ PageWritten.Bytes n = ap (λ (o : WriteOutcome). o.answer) e in
+      go (Ok tt) q e =
+          let a : ◌≡◌ {A = Result ℕ Refusal} (Ok (length (board_page b))) (Ok n) = ap (λ (o : WriteOutcome). o.answer) e in
           let same : length (board_page b) ≡ n = cc in
           ((sound-decides b).sound (not-false _ (served-next _ _ q).0), sym same, sym (ap (λ (o : WriteOutcome). o.page) e))
-      go (Refused r) q e =
-          let a : PageWritten.Refused r ≡ PageWritten.Bytes n = ap (λ (o : WriteOutcome). o.answer) e in
+      go (Err r) q e =
+          let a : ◌≡◌ {A = Result ℕ Refusal} (Err r) (Ok n) = ap (λ (o : WriteOutcome). o.answer) e in
           let z : ◌≡◌ {A = ℕ} 0 1 = cc in
           absurd (omega arith)
 
@@ -134,4 +127,4 @@ reads-back b page after n l e room =
     let count : length (board_rows b) ≡ b.market.arrived = length-rows (board_row b) b.market.arrived in
     ap (λ (s : List ℕ). read_page_of s l) front
     ∙ (page-served (board_page b) l (board_rows b) (board-is-page b sound) (rw count room)
-    ∙ (rw count (ap (read (PageRead.Rows b.market.arrived)) (rows-board b l))))
+    ∙ (rw count (ap (read (Ok b.market.arrived)) (rows-board b l))))

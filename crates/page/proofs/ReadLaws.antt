@@ -1,75 +1,52 @@
 -- What reading a page answers, as the code comes to it, and demand 1 of it.
+use Rattle.std.specs.Prelude.{Err, Ok}
 use mathlib.Core.Path.{◌≡◌, refl, sym, ◌∙◌, ap}
 use mathlib.Core.Bool.{true, false, not}
 use mathlib.Core.List.{List}
 use Prim.Native.Nat.{ℕ, ◌≤◌, ◌<◌}
 use native.Mathlib.Omega.{arith}
 use lib.ListN.{length}
-use lib.Dec.{leb}
-use borrow.Author.Tests.{lt-ltb, le-ltb, le-leb, lt-leb, not-false}
+use borrow.Author.Tests.{lt-ltb, le-ltb, not-false}
 use Rattle.duality.specs.Decide.{Decides}
 use Rattle.duality.proofs.Decide.{clash, reword, lt-decides, le-decides, and-decides}
 use Rattle.refusals.specs.declared.Refusal.{Refusal}
 use Rattle.refusals.specs.declared.Refusal.TheVariants.{Short, Line, Long}
-use Rattle.refusals.specs.declared.Verdict.{Verdict}
-use Rattle.refusals.specs.declared.Verdict.TheVariants.{Served, Refused}
-use Rattle.refusals.specs.Demand1.{first_of}
+use Rattle.refusals.specs.Demand1.{first_of, Verdict}
 use Rattle.refusals.specs.Told.{served, refused}
 use Rattle.refusals.proofs.Verdicts.{Decided, ends, next, demand-1, served-next}
 use Rattle.refusals.proofs.Answers.{refused-apart, served-apart}
 use Rattle.board.specs.Limits.{max_text}
 use Rattle.board.proofs.Tests.{no-decides}
+use Rattle.layout.specs.declared.row.Row.{Row}
 use Rattle.layout.specs.Page.{IsPageOf}
 use Rattle.layout.specs.Read.{Read, got, bad, read_of}
-use Rattle.layout.specs.Seen.{rows_in, line_in, SeenIs}
-use Rattle.layout.specs.Stored.{RowLists, rows_got, stored_lists}
+use Rattle.layout.specs.Seen.{rows_in, line_in}
+use Rattle.layout.specs.Stored.{RowLists, rows_got, rows_stored}
 use Rattle.layout.specs.Statements.{FirstBad}
-use Rattle.layout.proofs.Statements.{read-is-page, read-is-first-bad, bad-some}
-use Rattle.page.specs.declared.reading.PageRead.{PageRead}
+use Rattle.layout.proofs.Statements.{read-is-page, read-is-first-bad}
 use Rattle.page.specs.Reading.{read, Room, room_for, ReadMet, is_bad, read_checks, read_by, read_page_of, read_told}
 use Rattle.page.specs.Demand1.{ReadServes, ReadDemand1}
 
 -- ---- As the code comes to it
 module _ (s : List ℕ) (l : RowLists) where
-  pub read-long : max_text < length s → read (PageRead.Refused Long) l ≡ read_page_of s l
+  pub read-long : max_text < length s → read (Err Long) l ≡ read_page_of s l
   unfolding read_page_of read_by first_of
   read-long h = let q = lt-ltb max_text (length s) h in rw q
 
-  module _ (h : length s ≤ max_text) {n j : ℕ} (seen : SeenIs s n j) where
-    pub read-line : (j ≡ 0 → ⊥) → read (PageRead.Refused (Line j)) l ≡ read_page_of s l
+  module _ (h : length s ≤ max_text) where
+    pub read-line : {j : ℕ} → read_of s ≡ bad j → read (Err (Line j)) l ≡ read_page_of s l
     unfolding read_page_of read_by first_of
-    read-line some =
-        let q = le-ltb max_text (length s) h in
-        let e = seen.line in
-        let f : is_bad (read_of s) ≡ true = go (read_of s) (λ z. some (seen.line ∙ z)) in
-        rw (q, f, e)
-      where
-        go : (o : Read) → (line_in o ≡ 0 → ⊥) → is_bad o ≡ true
-        go (got rows) f = absurd (f refl)
-        go (bad j) f = refl
+    read-line e = let q = le-ltb max_text (length s) h in rw (q, e)
 
-    module _ (none : j ≡ 0) where
-      good : is_bad (read_of s) ≡ false
-      good = go (read_of s) refl
-        where
-          go : (o : Read) → read_of s ≡ o → is_bad (read_of s) ≡ false
-          go (got rows) e = ap is_bad e
-          go (bad i) e = absurd (bad-some s i e (sym (ap line_in e) ∙ (sym seen.line ∙ none)))
-
-      pub read_short : room_for n (length l.plan) (length l.weights) (length l.gains) ≡ false → read (PageRead.Refused Short) l ≡ read_page_of s l
+    module _ {rows : List Row} (e : read_of s ≡ got rows) where
+      pub read_short : room_for (length rows) (length l.plan) (length l.weights) (length l.gains) ≡ false → read (Err Short) l ≡ read_page_of s l
       unfolding read_page_of read_by first_of
-      read_short r =
-          let q = le-ltb max_text (length s) h in
-          let t : room_for (rows_in (read_of s)) (length l.plan) (length l.weights) (length l.gains) ≡ false = rw (← seen.rows) r in
-          rw (q, good, t)
+      read_short r = let q = le-ltb max_text (length s) h in rw (q, e, r)
 
-      pub read-served : {after : RowLists} → room_for n (length l.plan) (length l.weights) (length l.gains) ≡ true → after ≡ stored_lists n (read_of s) l →
-          read (PageRead.Rows n) after ≡ read_page_of s l
+      pub read-served : {after : RowLists} → room_for (length rows) (length l.plan) (length l.weights) (length l.gains) ≡ true → after ≡ rows_stored (length rows) rows l →
+          read (Ok (length rows)) after ≡ read_page_of s l
       unfolding read_page_of read_by first_of
-      read-served {after} r e =
-          let q = le-ltb max_text (length s) h in
-          let t : room_for (rows_in (read_of s)) (length l.plan) (length l.weights) (length l.gains) ≡ true = rw (← seen.rows) r in
-          rw (q, good, t, e, seen.rows)
+      read-served {after} r f = let q = le-ltb max_text (length s) h in rw (q, e, r, e) (ap (read (Ok (length rows))) f)
 
 -- ---- Demand 1
 pub room-decides : (n : ℕ) (l : RowLists) → Decides (room_for n (length l.plan) (length l.weights) (length l.gains)) (Room n l)
@@ -113,7 +90,7 @@ module _ (s : List ℕ) (l : RowLists) where
       (next short-decides ends))
 
 -- What is served is a page, and lists with room for its rows
-pub read-open : (s : List ℕ) (l : RowLists) → first_of (read_checks s l) ≡ Served → IsPageOf s (rows_got (read_of s)) × Room (rows_in (read_of s)) l
+pub read-open : (s : List ℕ) (l : RowLists) → first_of (read_checks s l) ≡ Ok tt → IsPageOf s (rows_got (read_of s)) × Room (rows_in (read_of s)) l
 read-open s l e =
     let u = served-next _ _ e in
     let v = served-next _ _ u.1 in
@@ -124,7 +101,7 @@ read-open s l e =
     page (bad j) e f = absurd (clash (is_bad (read_of s)) (ap is_bad e) f)
 
 module _ (s : List ℕ) (l : RowLists) where
-  serves : read_page_of s l ≡ read_by s l Served → first_of (read_checks s l) ≡ Served → ReadServes s l
+  serves : read_page_of s l ≡ read_by s l (Ok tt) → first_of (read_checks s l) ≡ Ok tt → ReadServes s l
   unfolding read_by
   serves e v = record { rows = rows_got (read_of s); page = (read-open s l v).0; answers = record { lists = rw e; tells = rw e } }
 
@@ -135,25 +112,10 @@ read-demand-1 s l =
     (λ r. (λ e. record { lists = rw e; tells = rw e }, λ a. by-refused r (first_of (read_checks s l)) a.tells))
     (λ e. serves s l (ap (read_by s l) e) e, λ a. by-served (first_of (read_checks s l)) a.answers.tells)
   where
-    by-refused : (r : Refusal) (v : Verdict) → read_told (read_by s l v).answer ≡ refused r → v ≡ Refused r
-    by-refused r Served e = served-apart _ r _ _ e
-    by-refused r (Refused q) e = ap Refused (refused-apart q r e)
+    by-refused : (r : Refusal) (v : Verdict) → read_told (read_by s l v).answer ≡ refused r → v ≡ Err r
+    by-refused r (Ok tt) e = served-apart _ r _ _ e
+    by-refused r (Err q) e = ap Err (refused-apart q r e)
 
-    by-served : {n : ℕ} (v : Verdict) → read_told (read_by s l v).answer ≡ served n → v ≡ Served
-    by-served Served e = refl
-    by-served (Refused q) e = served-apart _ q _ _ (sym e)
-
--- ---- The room of the lists, test by test
-module _ (n plan weights gains : ℕ) where
-  pub room-plan : plan < n → false ≡ room_for n plan weights gains
-  unfolding room_for
-  room-plan h = rw (lt-leb n plan h)
-
-  module _ (h : n ≤ plan) where
-    pub room-weights : weights < n → false ≡ room_for n plan weights gains
-    unfolding room_for
-    room-weights k = rw (le-leb n plan h, lt-leb n weights k)
-
-    pub room-gains : n ≤ weights → leb n gains ≡ room_for n plan weights gains
-    unfolding room_for
-    room-gains k = rw (le-leb n plan h, le-leb n weights k)
+    by-served : {n : ℕ} (v : Verdict) → read_told (read_by s l v).answer ≡ served n → v ≡ Ok tt
+    by-served (Ok tt) e = refl
+    by-served (Err q) e = served-apart _ q _ _ (sym e)

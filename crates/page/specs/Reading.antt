@@ -1,12 +1,11 @@
 -- Reading a page: "a text not of this form is 14 at its first bad line (the one after the last, if it stops short), after 15, then 8 for lists too
 -- short." "Writing returns the bytes written, reading the number of batches".
-use Rattle.std.specs.Prelude.{◌≡◌, Bool, true, false, not, ◌&&◌, List, [], ◌∷◌, ℕ, ◌<◌, ◌≤◌, length, leb, ltb}
+use Rattle.std.specs.Prelude.{◌≡◌, Bool, true, false, not, ◌&&◌, List, [], ◌∷◌, ℕ, ◌<◌, ◌≤◌, length, leb, ltb, Err, Ok, Result}
 use Rattle.refusals.specs.declared.Refusal.{Refusal}
 use Rattle.refusals.specs.declared.Refusal.TheVariants.{Short, Line, Long}
-use Rattle.refusals.specs.declared.Verdict.{Verdict}
 use Rattle.refusals.specs.declared.Told.{Told}
 use Rattle.refusals.specs.Told.{served, refused}
-use Rattle.refusals.specs.Demand1.{Check, check_for, first_of}
+use Rattle.refusals.specs.Demand1.{Check, check_for, first_of, Verdict}
 use Rattle.board.specs.Limits.{max_text}
 use Rattle.layout.specs.declared.row.Row.{Row}
 use Rattle.layout.specs.Page.{IsPageOf}
@@ -14,14 +13,13 @@ use Rattle.layout.specs.Read.{Read, got, bad, read_of}
 use Rattle.layout.specs.Seen.{rows_in, line_in}
 use Rattle.layout.specs.Stored.{RowLists, stored_lists}
 use Rattle.layout.specs.Statements.{FirstBad}
-use Rattle.page.specs.declared.reading.PageRead.{PageRead}
 
 -- The answer, and the three lists after the call
 pub record RowsOutcome : Type 0 where
-  pub answer : PageRead
+  pub answer : Result ℕ Refusal
   pub lists : RowLists
 
-abbrev pub read : PageRead → RowLists → RowsOutcome
+abbrev pub read : Result ℕ Refusal → RowLists → RowsOutcome
 read a l = record { answer = a; lists = l }
 
 -- There is a cell of each list for each of n rows
@@ -50,16 +48,16 @@ read_checks s l =
     ∷ (check_for Short (not (room_for (rows_in (read_of s)) (length l.plan) (length l.weights) (length l.gains))) ∷ []))
 
 unfoldable pub read_by : List ℕ → RowLists → Verdict → RowsOutcome
-read_by s l Verdict.Served = read (PageRead.Rows (rows_in (read_of s))) (stored_lists (rows_in (read_of s)) (read_of s) l)
-read_by s l (Verdict.Refused r) = read (PageRead.Refused r) l
+read_by s l (Ok tt) = read (Ok (rows_in (read_of s))) (stored_lists (rows_in (read_of s)) (read_of s) l)
+read_by s l (Err r) = read (Err r) l
 
 unfoldable pub read_page_of : List ℕ → RowLists → RowsOutcome
 read_page_of s l = read_by s l (first_of (read_checks s l))
 
 -- What is told
-abbrev pub read_told : PageRead → Told
-read_told (PageRead.Rows n) = served n
-read_told (PageRead.Refused r) = refused r
+abbrev pub read_told : Result ℕ Refusal → Told
+read_told (Ok n) = served n
+read_told (Err r) = refused r
 
 -- Reading leaves the lists after, and tells t
 pub record ReadAnswers (s : List ℕ) (before after : RowLists) (t : Told) : Type 0 where

@@ -1,23 +1,21 @@
 -- Writing a page: "Answers when writing: 8 if the lent page is too short, after 13. Writing returns the bytes written".
-use Rattle.std.specs.Prelude.{◌≡◌, not, List, [], ◌∷◌, ◌++◌, ℕ, ◌<◌, length, drop, ltb}
+use Rattle.std.specs.Prelude.{◌≡◌, not, List, [], ◌∷◌, ◌++◌, ℕ, ◌<◌, length, drop, ltb, Err, Ok, Result}
 use Rattle.refusals.specs.declared.Refusal.{Refusal}
 use Rattle.refusals.specs.declared.Refusal.TheVariants.{Short, Spoilt}
-use Rattle.refusals.specs.declared.Verdict.{Verdict}
 use Rattle.refusals.specs.declared.Told.{Told}
 use Rattle.refusals.specs.Told.{served, refused}
-use Rattle.refusals.specs.Demand1.{Check, check_for, first_of}
+use Rattle.refusals.specs.Demand1.{Check, check_for, first_of, Verdict}
 use Rattle.supply.specs.declared.record.Board.{Board}
 use Rattle.supply.specs.Sound.{Sound}
 use Rattle.supply.specs.SoundTest.{sound_test}
-use Rattle.page.specs.declared.writing.PageWritten.{PageWritten}
 use Rattle.page.specs.Rows.{board_page}
 
 -- The answer, and the lent page after the call
 pub record WriteOutcome : Type 0 where
-  pub answer : PageWritten
+  pub answer : Result ℕ Refusal
   pub page : List ℕ
 
-abbrev pub wrote : PageWritten → List ℕ → WriteOutcome
+abbrev pub wrote : Result ℕ Refusal → List ℕ → WriteOutcome
 wrote a page = record { answer = a; page = page }
 
 -- "a list to be written has too few cells"
@@ -34,16 +32,16 @@ abbrev pub page_over : Board → List ℕ → List ℕ
 page_over b page = board_page b ++ drop (length (board_page b)) page
 
 unfoldable pub write_by : Board → List ℕ → Verdict → WriteOutcome
-write_by b page Verdict.Served = wrote (PageWritten.Bytes (length (board_page b))) (page_over b page)
-write_by b page (Verdict.Refused r) = wrote (PageWritten.Refused r) page
+write_by b page (Ok tt) = wrote (Ok (length (board_page b))) (page_over b page)
+write_by b page (Err r) = wrote (Err r) page
 
 unfoldable pub write_page_of : Board → List ℕ → WriteOutcome
 write_page_of b page = write_by b page (first_of (write_checks b (length page)))
 
 -- What is told
-abbrev pub written_told : PageWritten → Told
-written_told (PageWritten.Bytes n) = served n
-written_told (PageWritten.Refused r) = refused r
+abbrev pub written_told : Result ℕ Refusal → Told
+written_told (Ok n) = served n
+written_told (Err r) = refused r
 
 -- Writing leaves the page after, and tells t
 pub record WriteAnswers (b : Board) (before after : List ℕ) (t : Told) : Type 0 where

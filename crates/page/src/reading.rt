@@ -4,44 +4,37 @@ ghost use Rattle.layout.specs.Stored.{row_lists};
 ghost use Rattle.page.specs.Reading.{room_for, read, read_page_of};
 
 use board::record::Auction;
-use layout::read::{judge, store_rows};
+use layout::read::{BadLine, read, store_rows};
 use refusals::Refusal;
 
-// What reading a page answers: the number of its rows, or a refusal.
-#[derive(Clone, Copy)]
-pub enum PageRead {
-    Rows(u64),
-    Refused(Refusal),
-}
-
-// Whether three lists have so many cells.
+// Whether three lists have so many cells: one expression, as board's `has_room` is of a definition of its own.
+#[tactic(auto, unfolding(crate::specs::Reading::room_for))]
 fn has_room_for(rows: usize, plan: usize, weights: usize, gains: usize) -> bool
     ensures { result ≡ room_for rows plan weights gains }
 {
-    if plan < rows {
-        return false;
-    }
-    if weights < rows {
-        return false;
-    }
-    rows <= gains
+    rows <= plan && rows <= weights && rows <= gains
 }
 
-// Reads a page: a cell of each list for each of its rows.
-pub fn read_page(text: &[u8], plan: &mut [u64], weights: &mut [u64], gains: &mut [u64]) -> PageRead
+// Reads a page: a cell of each list for each of its rows, and answers how many rows it has.
+pub fn read_page(
+    text: &[u8],
+    plan: &mut [u64],
+    weights: &mut [u64],
+    gains: &mut [u64],
+) -> Result<u64, Refusal>
     ensures { read result (row_lists plan.new weights.new gains.new) ≡ read_page_of text.now (row_lists plan.old weights.old gains.old) }
 {
     if Auction::MAX_TEXT < text.len() {
-        return PageRead::Refused(Refusal::Long);
+        return Err(Refusal::Long);
     }
-    let seen = judge(text);
-    if seen.line != 0 {
-        return PageRead::Refused(Refusal::Line(seen.line));
+    match read(text) {
+        Err(BadLine(line)) => Err(Refusal::Line(line)),
+        Ok(rows) => {
+            if !has_room_for(rows.len(), plan.len(), weights.len(), gains.len()) {
+                return Err(Refusal::Short);
+            }
+            store_rows(rows.as_slice(), plan, weights, gains);
+            Ok(rows.len() as u64)
+        }
     }
-    let rows = seen.rows as usize;
-    if !has_room_for(rows, plan.len(), weights.len(), gains.len()) {
-        return PageRead::Refused(Refusal::Short);
-    }
-    store_rows(text, rows, plan, weights, gains);
-    PageRead::Rows(seen.rows)
 }

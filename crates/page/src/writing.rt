@@ -13,18 +13,11 @@ use layout::write::{page_bytes, put_page};
 use refusals::Refusal;
 use supply::columns::read_by_item;
 use supply::record::Board;
-use supply::sound::is_sound_in;
-
-// What writing a page answers: the bytes written, or a refusal.
-#[derive(Clone, Copy)]
-pub enum PageWritten {
-    Bytes(u64),
-    Refused(Refusal),
-}
 
 // The weight of bidder i + 1's edge at a place, 0 for no place.
 fn weight_held(weights: &[u32; Auction::MAX_CELLS], i: usize, place: usize) -> u64
-    requires { (length weights.now ≡ max_bidders * max_items) × (i < max_bidders) × (place ≤ max_items) }
+    requires bidder { i < max_bidders }
+    requires place { place ≤ max_items }
     ensures { result ≡ at_cell (λ k. get_or (row_in weights.now i) k 0) place }
 {
     if place == 0 {
@@ -39,36 +32,31 @@ fn weights_held(
     plan: [u64; Auction::MAX_BIDDERS],
     bidders: usize,
 ) -> [u64; Auction::MAX_BIDDERS]
-    requires { (length weights.now ≡ max_bidders * max_items) × (bidders ≤ max_bidders) × ((i : ℕ) → i < bidders → cells plan i ≤ max_items) }
+    requires bidders { bidders ≤ max_bidders }
+    requires plan { (i : ℕ) → i < bidders → cells plan i ≤ max_items }
     ensures { (i : ℕ) → i < bidders → cells result i ≡ at_cell (λ k. get_or (row_in weights.now i) k 0) (cells plan i) }
 {
     let mut held = [0u64; Auction::MAX_BIDDERS];
-    let mut i: usize = 0;
-    while i < bidders {
+    for i in 0..bidders {
         held[i] = weight_held(weights, i, plan[i] as usize);
-        i += 1;
     }
     held
 }
 
 // Writes the page of a board, and answers how many bytes it has.
-pub fn write_page(board: Board, page: &mut [u8]) -> PageWritten
-    ensures { wrote result page.new ≡ write_page_of board page.old }
+pub fn write_page(board: &Board, page: &mut [u8]) -> Result<u64, Refusal>
+    ensures { wrote result page.new ≡ write_page_of board.now page.old }
 {
-    let items = board.items;
-    let market = board.market;
-    let state = board.state;
-    if !is_sound_in(items, market, &board.weights, state) {
-        return PageWritten::Refused(Refusal::Spoilt);
+    if !board.is_sound() {
+        return Err(Refusal::Spoilt);
     }
-    let bidders = market.arrived as usize;
+    let bidders = board.market.arrived as usize;
     if page.len() < page_bytes(bidders) {
-        return PageWritten::Refused(Refusal::Short);
+        return Err(Refusal::Short);
     }
-    let by_place = columns_of(state, market.items as usize);
-    let plan = by_place.plan;
-    let weights = weights_held(&board.weights, plan, bidders);
-    let columns = read_by_item(by_place, items, bidders);
+    let by_place = columns_of(board.state, board.market.items as usize);
+    let weights = weights_held(&board.weights, by_place.plan, bidders);
+    let columns = read_by_item(by_place, board.items, bidders);
     let bytes = put_page(page, &columns.plan, &weights, &columns.gains, bidders);
-    PageWritten::Bytes(bytes as u64)
+    Ok(bytes as u64)
 }

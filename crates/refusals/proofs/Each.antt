@@ -1,4 +1,5 @@
 -- The checks of the cells of a list: what is served, what decides, and how a loop over the cells comes to the verdict.
+use Rattle.std.specs.Prelude.{Err, Ok}
 use mathlib.Core.Path.{◌≡◌, refl, sym, ap, ap₂, ◌∙◌}
 use mathlib.Core.List.{List, ◌++◌, append_assoc}
 use mathlib.Core.Logic.{⊎_elim}
@@ -7,9 +8,7 @@ use native.Mathlib.Nat.{zero-add, add-zero, eq-or-lt_of_le}
 use native.Mathlib.Numerals.{add-one}
 use native.Mathlib.Omega.{arith}
 use Rattle.refusals.specs.declared.Refusal.{Refusal}
-use Rattle.refusals.specs.declared.Verdict.{Verdict}
-use Rattle.refusals.specs.declared.Verdict.TheVariants.{Served, Refused}
-use Rattle.refusals.specs.Demand1.{Check, first_of}
+use Rattle.refusals.specs.Demand1.{Check, first_of, Verdict}
 use Rattle.refusals.specs.Each.{each_checks}
 use Rattle.refusals.proofs.Verdicts.{Decided, ends, decided-append, first_on, first_stops, served-both}
 
@@ -21,7 +20,7 @@ each-as f g i (suc n) e = ap₂ ◌++◌ (e i (omega arith)) (each-as f g (suc i
 
 module _ (checks : ℕ → List Check) where
   -- Where all are served, each is
-  pub each-served : (i n : ℕ) → first_of (each_checks checks i n) ≡ Served → (j : ℕ) → i ≤ j → j < i + n → first_of (checks j) ≡ Served
+  pub each-served : (i n : ℕ) → first_of (each_checks checks i n) ≡ Ok tt → (j : ℕ) → i ≤ j → j < i + n → first_of (checks j) ≡ Ok tt
   unfolding each_checks
   each-served i zero e j l h = absurd (omega arith)
   each-served i (suc n) e j l h =
@@ -29,7 +28,7 @@ module _ (checks : ℕ → List Check) where
       ⊎_elim (λ (q : i ≡ j). rw q at u.0) (λ m. each-served (suc i) n u.1 j m (omega arith)) (eq-or-lt_of_le l)
 
   -- Where each is served, all are
-  pub each-serves : (i n : ℕ) → ((j : ℕ) → i ≤ j → j < i + n → first_of (checks j) ≡ Served) → first_of (each_checks checks i n) ≡ Served
+  pub each-serves : (i n : ℕ) → ((j : ℕ) → i ≤ j → j < i + n → first_of (checks j) ≡ Ok tt) → first_of (each_checks checks i n) ≡ Ok tt
   unfolding each_checks first_of
   each-serves i zero h = refl
   each-serves i (suc n) h =
@@ -46,7 +45,7 @@ module _ (checks : ℕ → List Check) where
       rw (e, f, append_assoc) (ap (λ l. checks i ++ l) (each-split m n (suc i)))
 
   -- A refusal of the first m cells decides
-  pub each_first : (m n : ℕ) (r : Refusal) → m ≤ n → first_of (each_checks checks 0 m) ≡ Refused r → first_of (each_checks checks 0 n) ≡ Refused r
+  pub each_first : (m n : ℕ) (r : Refusal) → m ≤ n → first_of (each_checks checks 0 m) ≡ Err r → first_of (each_checks checks 0 n) ≡ Err r
   each_first m n r l e = let q : n ≡ m + (n - m) = omega arith in rw (q, each-split m (n - m) 0) (first_stops _ _ r e)
 
   decided-from : {Met : Refusal → Type 0} (i n : ℕ) → ((j : ℕ) → j < i + n → Decided Met (checks j)) → Decided Met (each_checks checks i n)
@@ -68,7 +67,7 @@ module _ {checks : ℕ → List Check} {n : ℕ} where
   each_start = let e : n - 0 ≡ n = omega arith in record { within = omega arith; same = rw e }
 
   module _ {i : ℕ} (left : Left checks n i) where
-    pub each-end : n ≤ i → Served ≡ first_of (each_checks checks 0 n)
+    pub each-end : n ≤ i → Ok tt ≡ first_of (each_checks checks 0 n)
     unfolding first_of each_checks
     each-end l = let e : n - i ≡ 0 = omega arith in rw (left.same, e)
 
@@ -78,8 +77,20 @@ module _ {checks : ℕ → List Check} {n : ℕ} where
       unfolding each_checks
       next-cell = let s : n - i ≡ suc (n - suc i) = omega arith in rw s
 
-      pub each_on : v ≡ Served → Left checks n (i + 1)
+      pub each_on : v ≡ Ok tt → Left checks n (i + 1)
       each_on s = record { within = omega arith; same = left.same ∙ rw (add-one, next-cell) (first_on _ _ (sym e ∙ s)) }
 
-      pub each-stop : {r : Refusal} → v ≡ Refused r → v ≡ first_of (each_checks checks 0 n)
+      pub each-stop : {r : Refusal} → v ≡ Err r → v ≡ first_of (each_checks checks 0 n)
       each-stop {r} s = s ∙ sym (left.same ∙ rw next-cell (first_stops _ _ r (sym e ∙ s)))
+
+-- Where the first k cells are served, what is left from there says the same as all
+pub each_left : (checks : ℕ → List Check) (n k : ℕ) → k ≤ n → ((j : ℕ) → j < k → first_of (checks j) ≡ Ok tt) → Left checks n k
+each_left checks n k l h =
+    let q : n ≡ k + (n - k) = omega arith in
+    record {
+      within = l;
+      same =
+          ap (λ m. first_of (each_checks checks 0 m)) q ∙
+          (ap first_of (each-split checks k (n - k) 0) ∙
+          rw (zero-add k) (first_on _ _ (each-serves checks 0 k (λ j a b. h j (omega arith)))));
+    }

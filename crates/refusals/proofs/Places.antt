@@ -1,4 +1,5 @@
 -- Cells of which one thing is asked: the first at which the test fails decides.
+use Rattle.std.specs.Prelude.{Err, Ok}
 use mathlib.Core.Path.{◌≡◌, refl, sym}
 use mathlib.Core.Bool.{Bool, true, false, not}
 use mathlib.Core.List.{List, [], ◌∷◌, ◌++◌}
@@ -7,29 +8,28 @@ use native.Mathlib.Omega.{arith}
 use Rattle.duality.specs.Decide.{Decides, all_below}
 use Rattle.duality.proofs.Decide.{reword, true-decides, all-decides}
 use Rattle.refusals.specs.declared.Refusal.{Refusal}
-use Rattle.refusals.specs.declared.Verdict.TheVariants.{Served, Refused}
 use Rattle.refusals.specs.Codes.{code_of, code}
 use Rattle.refusals.specs.Demand1.{Check, check_for, codes_of, first_of}
 use Rattle.refusals.specs.Each.{each_checks, cell_check, cell_checks, places_of}
 use Rattle.refusals.proofs.Verdicts.{Decided, ends, next}
-use Rattle.refusals.proofs.Each.{cells-decided, each-served, each-serves, Left, each_start, each-end, each_on, each-stop}
+use Rattle.refusals.proofs.Each.{cells-decided, each-served, each-serves, Left, each_start, each-end, each_on, each-stop, each_left}
 
 -- ---- A check, and those after it
 
-pub test-served : (r : Refusal) (t : Bool) (rest : List Check) → first_of (check_for r (not t) ∷ rest) ≡ Served → (t ≡ true) × (first_of rest ≡ Served)
+pub test-served : (r : Refusal) (t : Bool) (rest : List Check) → first_of (check_for r (not t) ∷ rest) ≡ Ok tt → (t ≡ true) × (first_of rest ≡ Ok tt)
 unfolding first_of
 test-served r true rest e = (refl, e)
 test-served r false rest e = let z : ◌≡◌ {A = ℕ} 0 1 = cc in absurd (omega arith)
 
-pub test-serves : (r : Refusal) (t : Bool) (rest : List Check) → t ≡ true → first_of rest ≡ Served → first_of (check_for r (not t) ∷ rest) ≡ Served
+pub test-serves : (r : Refusal) (t : Bool) (rest : List Check) → t ≡ true → first_of rest ≡ Ok tt → first_of (check_for r (not t) ∷ rest) ≡ Ok tt
 unfolding first_of
 test-serves r t rest e h = rw e h
 
-test-refuses : (r : Refusal) (t : Bool) → t ≡ false → Refused r ≡ first_of (check_for r (not t) ∷ [])
+test-refuses : (r : Refusal) (t : Bool) → t ≡ false → Err r ≡ first_of (check_for r (not t) ∷ [])
 unfolding first_of
 test-refuses r t e = rw e
 
-none-served : first_of [] ≡ Served
+none-served : first_of [] ≡ Ok tt
 unfolding first_of
 none-served = refl
 
@@ -43,21 +43,31 @@ module _ {refusal : ℕ → Refusal} {test : ℕ → Bool} {n : ℕ} where
   cell-start = record { left = each_start }
 
   module _ {i : ℕ} (passed : Passed refusal test n i) where
-    pub cell-end : n ≤ i → Served ≡ first_of (cell_checks refusal test n)
+    pub cell-end : n ≤ i → Ok tt ≡ first_of (cell_checks refusal test n)
     cell-end l = each-end passed.left l
 
     module _ (l : i < n) where
       pub cell-on : test i ≡ true → Passed refusal test n (i + 1)
-      cell-on e = record { left = each_on passed.left l {v = Served} (sym (test-serves (refusal i) (test i) [] e none-served)) refl }
+      cell-on e = record { left = each_on passed.left l {v = Ok tt} (sym (test-serves (refusal i) (test i) [] e none-served)) refl }
 
-      pub cell-stops : test i ≡ false → Refused (refusal i) ≡ first_of (cell_checks refusal test n)
+      pub cell-stops : test i ≡ false → Err (refusal i) ≡ first_of (cell_checks refusal test n)
       cell-stops e = each-stop passed.left l (test-refuses (refusal i) (test i) e) refl
+
+-- ---- The first cell at which the test fails, and none
+
+module _ (refusal : ℕ → Refusal) (test : ℕ → Bool) (n : ℕ) where
+  pub first_at : (k : ℕ) → k < n → ((j : ℕ) → j < k → test j ≡ true) → test k ≡ false → Err (refusal k) ≡ first_of (cell_checks refusal test n)
+  first_at k l h e =
+      cell-stops (record { left = each_left (cell_check refusal test) n k (omega arith) (λ j m. test-serves (refusal j) (test j) [] (h j m) none-served) }) l e
+
+  pub none_at : ((j : ℕ) → j < n → test j ≡ true) → Ok tt ≡ first_of (cell_checks refusal test n)
+  none_at h = sym (each-serves (cell_check refusal test) 0 n (λ j l m. test-serves (refusal j) (test j) [] (h j (omega arith)) none-served))
 
 -- ---- All of them
 
 module _ (refusal : ℕ → Refusal) (test : ℕ → Bool) where
   -- Served exactly when the test holds at each cell
-  pub cells-served : (n : ℕ) → Decides (all_below n test) (first_of (cell_checks refusal test n) ≡ Served)
+  pub cells-served : (n : ℕ) → Decides (all_below n test) (first_of (cell_checks refusal test n) ≡ Ok tt)
   cells-served n =
       reword (all-decides n test (λ j. test j ≡ true) (λ j. true-decides (test j)))
       (λ h. each-serves (cell_check refusal test) 0 n (λ j l m. test-serves (refusal j) (test j) [] (h j (omega arith)) none-served))

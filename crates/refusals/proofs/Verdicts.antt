@@ -1,4 +1,6 @@
 -- The first check that is met: demand 1 of any call, once.
+use Rattle.std.specs.Prelude.{Result, Ok, Err, IsErrAnd}
+use Rattle.std.proofs.lemmas.Result.{err_from_is_err_and}
 use mathlib.Core.Path.{◌≡◌, refl, sym, ap, ◌∙◌}
 use mathlib.Core.Bool.{Bool, true, false, cond}
 use mathlib.Core.List.{List, [], ◌∷◌, ◌++◌}
@@ -9,11 +11,9 @@ use native.Mathlib.Omega.{arith}
 use Rattle.duality.specs.Decide.{Decides}
 use Rattle.duality.proofs.Decide.{clash, false-is}
 use Rattle.refusals.specs.declared.Refusal.{Refusal}
-use Rattle.refusals.specs.declared.Verdict.{Verdict}
-use Rattle.refusals.specs.declared.Verdict.TheVariants.{Served, Refused}
 use Rattle.refusals.specs.declared.Refusal.TheVariants.{Count, Slack, Full, Unknown, Gone, Worth, Order, Short, Uneven, Clash, Price, Bare, Spoilt, Line, Long, Places, Large}
 use Rattle.refusals.specs.Codes.{Code, code_of, CodesApart}
-use Rattle.refusals.specs.Demand1.{Check, check_for, first_of, Unmet, none, also, Leads, Demand1}
+use Rattle.refusals.specs.Demand1.{Check, check_for, first_of, Unmet, none, also, Leads, Demand1, Verdict}
 
 -- The table's rows at a place, and the one with a number
 abbrev rows : ℕ → List Refusal
@@ -44,7 +44,7 @@ row-of Large = refl
 pub codes-apart : CodesApart
 codes-apart r s e = sym (row-of r) ∙ (ap row_of e ∙ row-of s)
 
-apart : (r : Refusal) → Served ≡ Refused r → ⊥
+apart : (r : Refusal) → ◌≡◌ {A = Verdict} (Ok tt) (Err r) → ⊥
 apart r e = let z : ◌≡◌ {A = ℕ} 0 1 = cc in omega arith
 
 -- Each check's test decides whether its refusal is met
@@ -68,46 +68,46 @@ module _ (Met : Refusal → Type 0) where
         unmet = also f l.unmet;
       }
 
-  pub refuses : {checks : List Check} → Decided Met checks → (r : Refusal) → first_of checks ≡ Refused r → Leads Met checks r
+  pub refuses : {checks : List Check} → Decided Met checks → (r : Refusal) → first_of checks ≡ Err r → Leads Met checks r
   unfolding first_of
   refuses ends r e = absurd (apart r e)
   refuses (next {c} {rest} d ds) r e = go c.test refl e (refuses ds r)
     where
-      go : (t : Bool) → c.test ≡ t → cond t (Refused c.refusal) (first_of rest) ≡ Refused r → (first_of rest ≡ Refused r → Leads Met rest r) → Leads Met (c ∷ rest) r
+      go : (t : Bool) → c.test ≡ t → cond t (Err c.refusal) (first_of rest) ≡ Err r → (first_of rest ≡ Err r → Leads Met rest r) → Leads Met (c ∷ rest) r
       go true q e f =
           let same : c.refusal ≡ r = cc in
           rw (← same) (record { before = []; test = c.test; after = rest; stands = refl; met = d.sound q; unmet = none })
       go false q e f = later c rest r (λ m. clash c.test (d.complete m) q) (f e)
 
-  pub serves : {checks : List Check} → Decided Met checks → first_of checks ≡ Served → Unmet Met checks
+  pub serves : {checks : List Check} → Decided Met checks → first_of checks ≡ Ok tt → Unmet Met checks
   unfolding first_of
   serves ends e = none
   serves (next {c} {rest} d ds) e = go c.test refl e (serves ds)
     where
-      go : (t : Bool) → c.test ≡ t → cond t (Refused c.refusal) (first_of rest) ≡ Served → (first_of rest ≡ Served → Unmet Met rest) → Unmet Met (c ∷ rest)
+      go : (t : Bool) → c.test ≡ t → cond t (Err c.refusal) (first_of rest) ≡ Ok tt → (first_of rest ≡ Ok tt → Unmet Met rest) → Unmet Met (c ∷ rest)
       go true q e f = absurd (apart c.refusal (sym e))
       go false q e f = also (λ m. clash c.test (d.complete m) q) (f e)
 
-  pub served_by : {checks : List Check} → Decided Met checks → Unmet Met checks → first_of checks ≡ Served
+  pub served_by : {checks : List Check} → Decided Met checks → Unmet Met checks → first_of checks ≡ Ok tt
   unfolding first_of
   served_by ends none = refl
   served_by (next {c} {rest} d ds) (also f u) = let q = sym (false-is c.test d f) in rw q (served_by ds u)
 
   -- What is unmet is passed over
   passes : (before after : List Check) (r : Refusal) (t : Bool) → Decided Met (before ++ (check_for r t ∷ after)) → Unmet Met before → Met r →
-      first_of (before ++ (check_for r t ∷ after)) ≡ Refused r
+      first_of (before ++ (check_for r t ∷ after)) ≡ Err r
   unfolding first_of
   passes [] after r t (next d ds) none m = let q : t ≡ true = d.complete m in rw q
   passes (c ∷ before) after r t (next d ds) (also f u) m =
       let q = sym (false-is c.test d f) in rw q (passes before after r t ds u m)
 
-  pub refused_by : {checks : List Check} → Decided Met checks → (r : Refusal) → Leads Met checks r → first_of checks ≡ Refused r
+  pub refused_by : {checks : List Check} → Decided Met checks → (r : Refusal) → Leads Met checks r → first_of checks ≡ Err r
   refused_by {checks} ds r l =
       ap first_of l.stands ∙ passes l.before l.after r l.test (rw l.stands at ds) l.unmet l.met
 
 -- A call that answers by its verdict
 pub demand-1 : {Met : Refusal → Type 0} {checks : List Check} {Answers : Refusal → Type 0} {Serves : Type 0} → Decided Met checks →
-    ((r : Refusal) → (first_of checks ≡ Refused r) ↔ Answers r) → (first_of checks ≡ Served) ↔ Serves → Demand1 Met checks Answers Serves
+    ((r : Refusal) → (first_of checks ≡ Err r) ↔ Answers r) → (first_of checks ≡ Ok tt) ↔ Serves → Demand1 Met checks Answers Serves
 demand-1 {Met} ds refused served =
     record {
       refuses = λ r a. refuses Met ds r ((refused r).1 a);
@@ -136,54 +136,62 @@ demand-1-as d answers served =
     }
 
 -- A list of checks in two parts
-pub first_on : (checks rest : List Check) → first_of checks ≡ Served → first_of (checks ++ rest) ≡ first_of rest
+pub first_on : (checks rest : List Check) → first_of checks ≡ Ok tt → first_of (checks ++ rest) ≡ first_of rest
 unfolding first_of
 first_on [] rest e = refl
 first_on (c ∷ checks) rest e = go c.test e (first_on checks rest)
   where
-    go : (t : Bool) → cond t (Refused c.refusal) (first_of checks) ≡ Served → (first_of checks ≡ Served → first_of (checks ++ rest) ≡ first_of rest) →
-        cond t (Refused c.refusal) (first_of (checks ++ rest)) ≡ first_of rest
+    go : (t : Bool) → cond t (Err c.refusal) (first_of checks) ≡ Ok tt → (first_of checks ≡ Ok tt → first_of (checks ++ rest) ≡ first_of rest) →
+        cond t (Err c.refusal) (first_of (checks ++ rest)) ≡ first_of rest
     go true e f = absurd (apart c.refusal (sym e))
     go false e f = f e
 
-pub first_stops : (checks rest : List Check) (r : Refusal) → first_of checks ≡ Refused r → first_of (checks ++ rest) ≡ Refused r
+pub first_stops : (checks rest : List Check) (r : Refusal) → first_of checks ≡ Err r → first_of (checks ++ rest) ≡ Err r
 unfolding first_of
 first_stops [] rest r e = absurd (apart r e)
 first_stops (c ∷ checks) rest r e = go c.test e (first_stops checks rest r)
   where
-    go : (t : Bool) → cond t (Refused c.refusal) (first_of checks) ≡ Refused r → (first_of checks ≡ Refused r → first_of (checks ++ rest) ≡ Refused r) →
-        cond t (Refused c.refusal) (first_of (checks ++ rest)) ≡ Refused r
+    go : (t : Bool) → cond t (Err c.refusal) (first_of checks) ≡ Err r → (first_of checks ≡ Err r → first_of (checks ++ rest) ≡ Err r) →
+        cond t (Err c.refusal) (first_of (checks ++ rest)) ≡ Err r
     go true e f = e
     go false e f = f e
 
 -- A verdict on the first part stands, or leaves it to the second
-pub stops : (xs ys : List Check) (v : Verdict) (r : Refusal) → v ≡ first_of xs → v ≡ Refused r → v ≡ first_of (xs ++ ys)
+pub stops : (xs ys : List Check) (v : Verdict) (r : Refusal) → v ≡ first_of xs → v ≡ Err r → v ≡ first_of (xs ++ ys)
 stops xs ys v r e s = s ∙ sym (first_stops xs ys r (sym e ∙ s))
 
-pub passes_on : (xs ys : List Check) (v w : Verdict) → v ≡ first_of xs → v ≡ Served → w ≡ first_of ys → w ≡ first_of (xs ++ ys)
+pub passes_on : (xs ys : List Check) (v w : Verdict) → v ≡ first_of xs → v ≡ Ok tt → w ≡ first_of ys → w ≡ first_of (xs ++ ys)
 passes_on xs ys v w e s h = h ∙ sym (first_on xs ys (sym e ∙ s))
 
 -- Both are served
-pub served-both : (xs ys : List Check) → first_of (xs ++ ys) ≡ Served → (first_of xs ≡ Served) × (first_of ys ≡ Served)
+pub served-both : (xs ys : List Check) → first_of (xs ++ ys) ≡ Ok tt → (first_of xs ≡ Ok tt) × (first_of ys ≡ Ok tt)
 served-both xs ys e = go (first_of xs) refl
   where
-    go : (v : Verdict) → first_of xs ≡ v → (first_of xs ≡ Served) × (first_of ys ≡ Served)
-    go Served q = (q, sym (first_on xs ys q) ∙ e)
-    go (Refused r) q = absurd (apart r (sym e ∙ first_stops xs ys r q))
+    go : (v : Verdict) → first_of xs ≡ v → (first_of xs ≡ Ok tt) × (first_of ys ≡ Ok tt)
+    go (Ok tt) q = (q, sym (first_on xs ys q) ∙ e)
+    go (Err r) q = absurd (apart r (sym e ∙ first_stops xs ys r q))
 
 -- The first test fails, and the rest is served
-pub served-next : (c : Check) (rest : List Check) → first_of (c ∷ rest) ≡ Served → (c.test ≡ false) × (first_of rest ≡ Served)
+pub served-next : (c : Check) (rest : List Check) → first_of (c ∷ rest) ≡ Ok tt → (c.test ≡ false) × (first_of rest ≡ Ok tt)
 unfolding first_of
 served-next c rest e = go c.test refl e
   where
-    go : (t : Bool) → c.test ≡ t → cond t (Refused c.refusal) (first_of rest) ≡ Served → (c.test ≡ false) × (first_of rest ≡ Served)
+    go : (t : Bool) → c.test ≡ t → cond t (Err c.refusal) (first_of rest) ≡ Ok tt → (c.test ≡ false) × (first_of rest ≡ Ok tt)
     go true q e = let z : ◌≡◌ {A = ℕ} 0 1 = cc in absurd (omega arith)
     go false q e = (q, e)
 
 -- What is not served is refused
-pub unserved : (checks : List Check) → (first_of checks ≡ Served → ⊥) → (r : Refusal) × (first_of checks ≡ Refused r)
+pub unserved : (checks : List Check) → (first_of checks ≡ Ok tt → ⊥) → (r : Refusal) × (first_of checks ≡ Err r)
 unserved checks f = go (first_of checks) refl
   where
-    go : (v : Verdict) → first_of checks ≡ v → (r : Refusal) × (first_of checks ≡ Refused r)
-    go Served e = absurd (f e)
-    go (Refused r) e = (r, e)
+    go : (v : Verdict) → first_of checks ≡ v → (r : Refusal) × (first_of checks ≡ Err r)
+    go (Ok tt) e = absurd (f e)
+    go (Err r) e = (r, e)
+
+-- What the exit of a `?` returns: the refusal of the call
+pub refused_up : {T : Type 0} {e : Refusal} (r : Result T Refusal) → IsErrAnd r (λ x. x ≡ e) → r ≡ Err e
+refused_up r h = let p = err_from_is_err_and r h in p.1 ∙ ap Err p.2
+
+-- The same, where the call's verdict is returned
+pub passed_up : {v : Verdict} {e : Refusal} (r : Verdict) → v ≡ Err e → IsErrAnd r (λ x. x ≡ e) → r ≡ v
+passed_up r was h = refused_up r h ∙ sym was

@@ -1,8 +1,6 @@
 -- A call's checks in order, and demand 1 of any call.
-use Rattle.std.specs.Prelude.{◌≡◌, Bool, cond, List, [], ◌∷◌, ◌++◌, map, ◌↔◌}
+use Rattle.std.specs.Prelude.{◌≡◌, Bool, cond, List, [], ◌∷◌, ◌++◌, map, ◌↔◌, Result, Ok, Err}
 use Rattle.refusals.specs.declared.Refusal.{Refusal}
-use Rattle.refusals.specs.declared.Verdict.{Verdict}
-use Rattle.refusals.specs.declared.Verdict.TheVariants.{Served, Refused}
 use Rattle.refusals.specs.Codes.{Code, code_of, Coded}
 
 -- A refusal with the test of whether it is met. A call's checks stand in the call's order
@@ -17,10 +15,14 @@ check_for r t = record { refusal = r; test = t }
 abbrev pub codes_of : List Check → List Code
 codes_of checks = map (λ (c : Check). code_of c.refusal) checks
 
+-- Whether a call is served: `Ok tt`, or the refusal
+abbrev pub Verdict : Type 0
+Verdict = Result (Unit {0}) Refusal
+
 -- The verdict: the first refusal whose test is true
 unfoldable pub first_of : List Check → Verdict
-first_of [] = Served
-first_of (c ∷ rest) = cond c.test (Refused c.refusal) (first_of rest)
+first_of [] = Ok tt
+first_of (c ∷ rest) = cond c.test (Err c.refusal) (first_of rest)
 
 -- ---- Demand 1. Met is the call's rows in the table's words.
 

@@ -4,36 +4,57 @@
 ghost use Rattle.std.specs.Prelude.{◌≡◌};
 ghost use Rattle.refusals.specs.Codes.{code_of};
 
+use thiserror::Error;
+
 // The refusals of the table, each by its word; a place where it has one.
-#[derive(Clone, Copy)]
+#[derive(Clone, Copy, Debug, PartialEq, Eq, Hash, Error)]
 pub enum Refusal {
+    #[error("count")]
     Count,
+    #[error("slack")]
     Slack,
+    #[error("full")]
     Full,
+    #[error("unknown")]
     Unknown(u64),
+    #[error("gone")]
     Gone(u64),
+    #[error("worth")]
     Worth(u64),
+    #[error("order")]
     Order(u64),
+    #[error("short")]
     Short,
+    #[error("uneven")]
     Uneven,
+    #[error("clash")]
     Clash(u64),
+    #[error("price")]
     Price(u64),
+    #[error("bare")]
     Bare(u64),
+    #[error("spoilt")]
     Spoilt,
+    #[error("line")]
     Line(u64),
+    #[error("long")]
     Long,
+    #[error("places")]
     Places(u64),
+    #[error("large")]
     Large,
 }
 
-// Whether a call is served.
-#[derive(Clone, Copy)]
-pub enum Verdict {
-    Served,
-    Refused(Refusal),
+// A refusal of a text, and the line at which it is told: 0 for the text as a whole. A number, since C is told the line as the place.
+#[derive(Clone, Copy, Debug, PartialEq, Eq, Hash, Error)]
+#[error("{refusal} at line {line}")]
+pub struct AtLine {
+    pub refusal: Refusal,
+    pub line: u64,
 }
 
-// A call's answer in numbers. Number 0 says that the call served, with a value where it has one. Any other number is the refusal's, with its place.
+// A call's answer in numbers, for C, which takes no enum. Number 0 says that the call served, with a value where it has one. Any other number is the
+// refusal's, with its place.
 #[repr(C)]
 #[derive(Clone, Copy)]
 pub struct Told {
@@ -43,7 +64,7 @@ pub struct Told {
 }
 
 impl Refusal {
-    // Its number in the table.
+    // Its number in the table, which C reads: by a name of its own, as docs and `code_of` have it.
     pub fn number(self) -> u64
         ensures { result ≡ (code_of self).number }
     {
@@ -73,23 +94,35 @@ impl Refusal {
         ensures { result ≡ (code_of self).place }
     {
         match self {
-            Refusal::Count => 0,
-            Refusal::Slack => 0,
-            Refusal::Full => 0,
             Refusal::Unknown(place) => place,
             Refusal::Gone(place) => place,
             Refusal::Worth(place) => place,
             Refusal::Order(place) => place,
-            Refusal::Short => 0,
-            Refusal::Uneven => 0,
             Refusal::Clash(place) => place,
             Refusal::Price(place) => place,
             Refusal::Bare(place) => place,
-            Refusal::Spoilt => 0,
             Refusal::Line(place) => place,
-            Refusal::Long => 0,
             Refusal::Places(place) => place,
-            Refusal::Large => 0,
+            _ => 0,
         }
+    }
+}
+
+#[cfg(test)]
+mod tests {
+    use super::*;
+    use std::test::Fail;
+
+    #[test]
+    fn says_the_words_of_the_table(rt: HostRuntime) -> Result<(), Fail> {
+        let alloc = rt.alloc();
+        assert_eq!(rt; format!(in alloc; "{}", Refusal::Count)?.as_str(), "count");
+        assert_eq!(rt; format!(in alloc; "{}", Refusal::Bare(3))?.as_str(), "bare");
+        assert_eq!(rt;
+            format!(in alloc; "{:?}", Refusal::Bare(3))?.as_str(),
+            "Bare(3)"
+        );
+        assert!(rt; Refusal::Bare(3) != Refusal::Bare(4));
+        Ok(())
     }
 }

@@ -1,14 +1,12 @@
 -- What a line says, by its form; and the pairs of its numbers.
-use mathlib.Core.Path.{◌≡◌, refl, ◌∙◌}
+use mathlib.Core.Path.{◌≡◌, refl}
 use mathlib.Core.Bool.{Bool, true, false, ◌&&◌}
 use mathlib.Core.List.{List, []}
-use Prim.Native.Nat.{ℕ, zero, suc, ◌+◌, ◌-◌, ◌*◌, ◌/◌, ◌%◌, ◌<◌, min}
+use Prim.Native.Nat.{ℕ, ◌-◌, ◌/◌, ◌%◌, min}
 use native.Mathlib.Omega.{arith}
-use lib.ListN.{length, get_or, set, take}
-use lib.Seq.{get_or-set_same, get_or-set_other}
+use lib.ListN.{get_or, set, take}
 use lib.Dec.{eqb, ltb}
 use borrow.Author.Tests.{eqb-true, ne_eqb}
-use Rattle.duality.proofs.Below.{one_more}
 use Rattle.text.specs.declared.line.Line.{Line}
 use Rattle.text.proofs.Numbers.{both}
 use Rattle.supply.specs.declared.record.Board.{Board}
@@ -18,7 +16,6 @@ use Rattle.replay.specs.declared.Replayed.{Replayed}
 use Rattle.board.specs.Limits.{max_edges}
 use Rattle.bidding.specs.Rule.{Outcome}
 use Rattle.refusals.specs.Demand1.{first_of}
-use Rattle.auction.specs.Edges.{edges_from}
 use Rattle.supply.specs.Opening.{opened}
 use Rattle.auction.specs.Arrive.{arrive_of}
 use Rattle.auction.specs.Withdraw.{withdraw_of}
@@ -114,23 +111,3 @@ module _ (l : Line) where
       go false true u r q p = rw (e, r, q)
       go false false true r q p = rw (e, r, q, p)
       go false false false r q p = rw (e, r, q, p)
-
--- ---- The pairs, in two lists
-module _ (numbers items weights : List ℕ) where
-  -- The first n stand there
-  abbrev pub Paired : ℕ → Type 0
-  Paired n = (j : ℕ) → j < n → (get_or items j 0 ≡ get_or numbers (2 * j) 0) × (get_or weights j 0 ≡ get_or numbers (2 * j + 1) 0)
-
-  pub pairs-are : (n : ℕ) → Paired n → edges_from items weights n ≡ pairs_of numbers n
-  unfolding edges_from pairs_of
-  pairs-are zero e = refl
-  pairs-are (suc n) e = let p = e n (omega arith) in rw (pairs-are n (λ j l. e j (omega arith)), p.0, p.1)
-
--- One more
-pub pairs-more : (numbers items weights : List ℕ) (i : ℕ) → i < length items → i < length weights → Paired numbers items weights i →
-    Paired numbers (set items i (get_or numbers (2 * i) 0)) (set weights i (get_or numbers (2 * i + 1) 0)) (suc i)
-pairs-more numbers items weights i a b e =
-    one_more i
-    (λ j. (get_or (set items i (get_or numbers (2 * i) 0)) j 0 ≡ get_or numbers (2 * j) 0) × (get_or (set weights i (get_or numbers (2 * i + 1) 0)) j 0 ≡ get_or numbers (2 * j + 1) 0))
-    (λ j l. (get_or-set_other items i j _ 0 (λ q. omega arith) ∙ (e j l).0, get_or-set_other weights i j _ 0 (λ q. omega arith) ∙ (e j l).1))
-    (get_or-set_same items i _ 0 a, get_or-set_same weights i _ 0 b)

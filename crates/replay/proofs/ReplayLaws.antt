@@ -1,4 +1,5 @@
 -- Every text has an outcome, which is the one that its lines say; a finished one is a history.
+use Rattle.std.specs.Prelude.{Ok, Err}
 use mathlib.Core.Path.{◌≡◌, refl, sym, ap, subst, ◌∙◌}
 use mathlib.Core.Bool.{Bool, true, false, cond, ◌&&◌}
 use mathlib.Core.List.{List}
@@ -8,23 +9,20 @@ use lib.ListN.{set}
 use lib.Dec.{eqb}
 use native.Mathlib.Omega.{arith}
 use Rattle.refusals.specs.declared.Refusal.{Refusal}
+use Rattle.refusals.specs.declared.AtLine.{AtLine}
 use Rattle.refusals.specs.declared.Told.{Told}
 use Rattle.refusals.specs.Codes.{code_of}
 use Rattle.refusals.specs.Told.{told, served, refused_at}
 use Rattle.refusals.proofs.Answers.{served-apart}
 use Rattle.supply.specs.declared.record.Board.{Board}
-use Rattle.supply.specs.declared.opening.Opening.{Opening}
-use Rattle.supply.specs.Opening.{OpenAnswers}
+use Rattle.supply.specs.Opening.{Opening, OpenAnswers}
 use Rattle.bidding.specs.Rule.{done}
-use Rattle.auction.specs.declared.arrive.Arrived.{Arrived}
-use Rattle.auction.specs.declared.withdraw.Withdrawn.{Withdrawn}
 use Rattle.auction.specs.Arrive.{arrival}
 use Rattle.auction.specs.Withdraw.{withdrawal}
 use Rattle.auction.specs.Histories.{Reached}
 use Rattle.auction.proofs.Told.{opened-ready, arrived-bids, withdrawn-bids}
-use Rattle.replay.specs.declared.Ending.{Ending}
 use Rattle.replay.specs.declared.Replayed.{Replayed}
-use Rattle.replay.specs.Replay.{at_line, ones, replay_of}
+use Rattle.replay.specs.Replay.{at_line, ones, replay_of, Ending, halted}
 use Rattle.replay.specs.ReplayLaws.{replayed, ReplayEnds, LinesReached, LinesOpen, ReplayReached, RefusedBefore}
 use Rattle.replay.specs.TextDemand1.{Stage, beginning, Lines, first, placed, arrived, withdrew, LineRefused, TextRefused, TextFinished, ending_told, ReplayAnswers, TextsDemand1}
 use Rattle.auction.proofs.Opening.{opening-ready}
@@ -45,17 +43,18 @@ module _ (s : List ℕ) where
       let q : u.0 ≡ r = cc in
       subst (TextFate s) q u.2
 
-  refused-fate : {b : Board} {bids n : ℕ} {r : Refusal} {x : Replayed} → x ≡ replayed b bids (Ending.Stopped r n) → TextFate s x → TextRefused s n b bids r
+  refused-fate : {b : Board} {bids n : ℕ} {r : Refusal} {x : Replayed} → x ≡ replayed b bids (halted r n) → TextFate s x → TextRefused s n b bids r
   refused-fate {b} {bids} {n} {r} e (stops {n = k} {m = m} {b = c} {r = q} t) =
-      let a : Ending.Stopped q k ≡ Ending.Stopped r n = ap (λ (x : Replayed). x.answer) e in
-      let same-r : q ≡ r = cc in
-      let same-n : k ≡ n = cc in
+      let a : ◌≡◌ {A = Ending} (halted q k) (halted r n) = ap (λ (x : Replayed). x.answer) e in
+      let s : ◌≡◌ {A = AtLine} (record { refusal = q; line = k }) (record { refusal = r; line = n }) = cc in
+      let same-r : q ≡ r = ap (λ (s : AtLine). s.refusal) s in
+      let same-n : k ≡ n = ap (λ (s : AtLine). s.line) s in
       let same-b : c ≡ b = ap (λ (x : Replayed). x.board) e in
       let same-m : m ≡ bids = ap (λ (x : Replayed). x.bids) e in
       rw (same-r, same-n, same-b, same-m) at t
   refused-fate e (ends t) = unfinished (sym (ap (λ (x : Replayed). x.answer) e))
 
-  finished-fate : {b : Board} {bids : ℕ} {x : Replayed} → x ≡ replayed b bids Ending.Finished → TextFate s x → (entries : ℕ) × TextFinished s b entries bids
+  finished-fate : {b : Board} {bids : ℕ} {x : Replayed} → x ≡ replayed b bids (Ok tt) → TextFate s x → (entries : ℕ) × TextFinished s b entries bids
   finished-fate {b} {bids} e (ends {e = k} {m = m} {b = c} t) =
       let same-b : c ≡ b = ap (λ (x : Replayed). x.board) e in
       let same-m : m ≡ bids = ap (λ (x : Replayed). x.bids) e in
@@ -65,21 +64,21 @@ module _ (s : List ℕ) where
   -- What is told names how the text ends
   told-refused : {b : Board} {number line bids : ℕ} → 0 < number → (a : ReplayAnswers s b (told number line bids)) (x : Ending) → a.answer ≡ x →
       (r : Refusal) × ((code_of r).number ≡ number) × TextRefused s line b bids r
-  told-refused {b} h a Ending.Finished e =
+  told-refused {b} h a (Ok tt) e =
       let z = ap (λ (t : Told). t.number) (sym (ap (λ (x : Ending). ending_told x a.bids) e) ∙ a.tells) in absurd (omega arith)
-  told-refused {b} {number} {line} {bids} h a (Ending.Stopped r n) e =
-      let t : refused_at r n a.bids ≡ told number line bids = sym (ap (λ (x : Ending). ending_told x a.bids) e) ∙ a.tells in
-      let same-n : n ≡ line = ap (λ (t : Told). t.place) t in
+  told-refused {b} {number} {line} {bids} h a (Err s) e =
+      let t : refused_at s.refusal s.line a.bids ≡ told number line bids = sym (ap (λ (x : Ending). ending_told x a.bids) e) ∙ a.tells in
+      let same-n : s.line ≡ line = ap (λ (t : Told). t.place) t in
       let same-m : a.bids ≡ bids = ap (λ (t : Told). t.value) t in
       let w = refused-fate (ap (λ (x : Ending). replayed b a.bids x) e) (fated a.outcome) in
-      (r, ap (λ (t : Told). t.number) t, rw (same-n, same-m) at w)
+      (s.refusal, ap (λ (t : Told). t.number) t, rw (same-n, same-m) at w)
 
   told-finished : {b : Board} {bids : ℕ} (a : ReplayAnswers s b (served bids)) (x : Ending) → a.answer ≡ x → (entries : ℕ) × TextFinished s b entries bids
-  told-finished {b} {bids} a Ending.Finished e =
+  told-finished {b} {bids} a (Ok tt) e =
       let same-m : a.bids ≡ bids = ap (λ (t : Told). t.value) (sym (ap (λ (x : Ending). ending_told x a.bids) e) ∙ a.tells) in
       let w = finished-fate (ap (λ (x : Ending). replayed b a.bids x) e) (fated a.outcome) in
       subst (λ (m : ℕ). (entries : ℕ) × TextFinished s b entries m) same-m w
-  told-finished {b} {bids} a (Ending.Stopped r n) e = served-apart bids r n _ (sym (sym (ap (λ (x : Ending). ending_told x a.bids) e) ∙ a.tells))
+  told-finished {b} {bids} a (Err s) e = served-apart bids s.refusal s.line _ (sym (sym (ap (λ (x : Ending). ending_told x a.bids) e) ∙ a.tells))
 
 pub texts-demand-1 : TextsDemand1
 texts-demand-1 s =
@@ -88,11 +87,11 @@ texts-demand-1 s =
       finishes = λ b bids. (λ e. finished-fate s refl (fated s e), λ u. finished-text u.1);
       numbered = λ b number line bids h. (
         λ a. told-refused s h a a.answer refl,
-        λ u. record { answer = Ending.Stopped u.0 line; bids = bids; outcome = refused-text u.2; tells = ap (λ (k : ℕ). told k line bids) u.1 },
+        λ u. record { answer = halted u.0 line; bids = bids; outcome = refused-text u.2; tells = ap (λ (k : ℕ). told k line bids) u.1 },
       );
       served = λ b bids. (
         λ a. told-finished s a a.answer refl,
-        λ u. record { answer = Ending.Finished; bids = bids; outcome = finished-text u.1; tells = refl },
+        λ u. record { answer = Ok tt; bids = bids; outcome = finished-text u.1; tells = refl },
       );
     }
 
@@ -119,10 +118,10 @@ lines-reached s n at g b entries bids (placed {items = items} {p = p} {q = q} {k
     let z = nothing_yet t in rw (z.0, z.1) (opens-reached items p q (set counts (k - 1) c) u)
 lines-reached s n at g b entries bids (arrived {k = k} {c = c} {edges = edges} t w u) =
     let h = arrived-bids u.answer k u.tells in
-    Reached.arrives edges (arrival c (Arrived.Bids k)) (lines-reached s _ _ _ _ _ _ t) (u.outcome ∙ ap (λ a. done (arrival c a)) h)
+    Reached.arrives edges (arrival c (Ok k)) (lines-reached s _ _ _ _ _ _ t) (u.outcome ∙ ap (λ a. done (arrival c a)) h)
 lines-reached s n at g b entries bids (withdrew {k = k} {c = c} {items = items} t w u) =
     let h = withdrawn-bids u.answer k u.tells in
-    Reached.withdraws items (withdrawal c (Withdrawn.Bids k)) (lines-reached s _ _ _ _ _ _ t) (u.outcome ∙ ap (λ a. done (withdrawal c a)) h)
+    Reached.withdraws items (withdrawal c (Ok k)) (lines-reached s _ _ _ _ _ _ t) (u.outcome ∙ ap (λ a. done (withdrawal c a)) h)
 
 pub replay-reached : ReplayReached
 replay-reached s b bids a =

@@ -1,4 +1,6 @@
 -- The lines of a history text, as the code carries them out.
+use Rattle.std.specs.Prelude.{Err, Ok, Result, MatchResult, IsErrAnd}
+use Rattle.std.proofs.lemmas.Result.{err_from_is_err_and}
 use mathlib.Core.Path.{◌≡◌, refl, sym, ap, subst, ◌∙◌}
 use mathlib.Core.Bool.{true, false}
 use mathlib.Core.List.{List, []}
@@ -8,36 +10,30 @@ use native.Mathlib.Omega.{arith}
 use lib.ListN.{length, get_or, set}
 use borrow.Author.Tests.{lt-ltb, le-ltb}
 use Rattle.text.specs.declared.line.Line.{Line}
-use Rattle.text.specs.Line.{line_at}
+use Rattle.text.specs.Line.{bad_line, line_at}
 use Rattle.text.proofs.Forms.{line-sound, line-complete, line-ahead}
 use Rattle.supply.specs.declared.record.Board.{Board}
 use Rattle.board.specs.declared.record.Edge.{Edge}
 use Rattle.refusals.specs.declared.Refusal.{Refusal}
-use Rattle.refusals.specs.declared.Verdict.{Verdict}
-use Rattle.auction.specs.declared.arrive.Arrived.{Arrived}
-use Rattle.auction.specs.declared.arrive.Arrival.{Arrival}
-use Rattle.auction.specs.declared.withdraw.Withdrawn.{Withdrawn}
-use Rattle.auction.specs.declared.withdraw.Withdrawal.{Withdrawal}
-use Rattle.replay.specs.declared.Ending.{Ending}
+use Rattle.refusals.specs.declared.AtLine.{AtLine}
+use Rattle.auction.specs.Arrive.{Arrival, arrival, arrive_of}
+use Rattle.auction.specs.Withdraw.{Withdrawal, withdrawal, withdraw_of}
 use Rattle.replay.specs.declared.Replayed.{Replayed}
 use Rattle.board.specs.Limits.{max_items, max_bidders, max_q, max_text}
 use Rattle.bidding.specs.Rule.{Outcome, done}
-use Rattle.refusals.specs.Demand1.{first_of}
+use Rattle.refusals.specs.Demand1.{first_of, Verdict}
 use Rattle.refusals.proofs.Verdicts.{served-next}
 use Rattle.supply.specs.Board.{auction_of}
 use Rattle.supply.specs.Opening.{opened, open_checks, open_by, open_of}
-use Rattle.auction.specs.Arrive.{arrival, arrive_of}
-use Rattle.auction.specs.Withdraw.{withdrawal, withdraw_of}
 use Rattle.auction.specs.Histories.{Reached}
 use Rattle.replay.specs.Counted.{Counted}
-use Rattle.replay.specs.Replay.{Command, opens, places, arrives, withdraws, malformed, command_of, finished, stopped, after_arrived, after_arrival, after_withdrawn, after_withdrawal, carry_out, lines_from}
-use Rattle.replay.specs.Replay.{place_checks, at_line, after_places, place_line, place_lines, ones, after_opened, first_line, replay_of}
-use Rattle.replay.specs.ReplayLaws.{replayed, ReachedBy}
+use Rattle.replay.specs.Replay.{Command, opens, places, arrives, withdraws, malformed, command_of, finished, stopped, after_arrived, after_arrival, after_withdrawn, after_withdrawal, carry_out, lines_from, halted, Ending, place_checks, at_line, after_places, place_line, place_lines, ones, after_opened, first_line, replay_of}
+use Rattle.replay.specs.ReplayLaws.{replayed, after_call, after_line, ReachedBy}
 use Rattle.bidding.proofs.Potentials.{potential-within}
 use Rattle.bidding.proofs.Turns.{limit-small}
 use Rattle.auction.proofs.Demand2.{arrive_ends, withdraw_ends}
 use Rattle.auction.proofs.Histories.{counted}
-use Rattle.replay.proofs.ReplayForms.{is_opening, is_places, says-opens, says-places, places-goes, places-none, opens-none}
+use Rattle.replay.proofs.ReplayForms.{is_opening, is_places, says-opens, says-places, places-goes, places-none, opens-none, carries-none}
 
 -- What makes the lines that follow
 abbrev pub Next : Type 0
@@ -45,17 +41,13 @@ Next = Board → ℕ → Outcome Replayed
 
 -- ---- A line that is served is a step of a history, and the bids in all fit the code's type
 
-pub opening-reached : (items p q : ℕ) (counts : List ℕ) → first_of (open_checks items p q counts) ≡ Verdict.Served → ReachedBy (opened p q counts) 0
-unfolding open_of open_by
-opening-reached items p q counts e = (0, Reached.opens items p q counts (rw e))
+pub arrival-reached : {b c : Board} {a : (Result ℕ Refusal)} {bids k : ℕ} (edges : List Edge) →
+    done (arrival c a) ≡ arrive_of b edges → a ≡ Ok k → ReachedBy b bids → ReachedBy c (bids + k)
+arrival-reached {c = c} edges h e t = (_, Reached.arrives edges (arrival c (Ok _)) t.1 (sym h ∙ ap (λ a. done (arrival c a)) e))
 
-pub arrival-reached : {b c : Board} {a : Arrived} {bids k : ℕ} (edges : List Edge) →
-    done (arrival c a) ≡ arrive_of b edges → a ≡ Arrived.Bids k → ReachedBy b bids → ReachedBy c (bids + k)
-arrival-reached {c = c} edges h e t = (_, Reached.arrives edges (arrival c (Arrived.Bids _)) t.1 (sym h ∙ ap (λ a. done (arrival c a)) e))
-
-pub withdrawal-reached : {b c : Board} {a : Withdrawn} {bids k : ℕ} (items : List ℕ) →
-    done (withdrawal c a) ≡ withdraw_of b items → a ≡ Withdrawn.Bids k → ReachedBy b bids → ReachedBy c (bids + k)
-withdrawal-reached {c = c} items h e t = (_, Reached.withdraws items (withdrawal c (Withdrawn.Bids _)) t.1 (sym h ∙ ap (λ a. done (withdrawal c a)) e))
+pub withdrawal-reached : {b c : Board} {a : (Result ℕ Refusal)} {bids k : ℕ} (items : List ℕ) →
+    done (withdrawal c a) ≡ withdraw_of b items → a ≡ Ok k → ReachedBy b bids → ReachedBy c (bids + k)
+withdrawal-reached {c = c} items h e t = (_, Reached.withdraws items (withdrawal c (Ok _)) t.1 (sym h ∙ ap (λ a. done (withdrawal c a)) e))
 
 pub bids-fit : {b : Board} {bids : ℕ} → ReachedBy b bids → bids ≤ max_bidders * max_items * max_q
 bids-fit {b} t =
@@ -65,30 +57,64 @@ bids-fit {b} t =
 
 -- ---- What follows an arrival, and what follows a withdrawal
 module _ (next : Next) (n bids : ℕ) {c : Board} where
-  pub arrival-goes : {a : Arrived} {k : ℕ} {o : Outcome Arrival} → done (arrival c a) ≡ o → a ≡ Arrived.Bids k → next c (bids + k) ≡ after_arrival next n bids o
+  pub arrival-goes : {a : (Result ℕ Refusal)} {k : ℕ} {o : Outcome Arrival} → done (arrival c a) ≡ o → a ≡ Ok k → next c (bids + k) ≡ after_arrival next n bids o
   unfolding after_arrival after_arrived
   arrival-goes h e = rw (← h, e)
 
-  pub arrival-stops : {a : Arrived} {r : Refusal} {o : Outcome Arrival} → done (arrival c a) ≡ o → a ≡ Arrived.Refused r → stopped c bids r n ≡ after_arrival next n bids o
+  pub arrival-stops : {a : (Result ℕ Refusal)} {r : Refusal} {o : Outcome Arrival} → done (arrival c a) ≡ o → a ≡ Err r → stopped c bids r n ≡ after_arrival next n bids o
   unfolding after_arrival after_arrived
   arrival-stops h e = rw (← h, e)
 
-  pub withdrawal-goes : {a : Withdrawn} {k : ℕ} {o : Outcome Withdrawal} → done (withdrawal c a) ≡ o → a ≡ Withdrawn.Bids k → next c (bids + k) ≡ after_withdrawal next n bids o
+  pub withdrawal-goes : {a : (Result ℕ Refusal)} {k : ℕ} {o : Outcome Withdrawal} → done (withdrawal c a) ≡ o → a ≡ Ok k → next c (bids + k) ≡ after_withdrawal next n bids o
   unfolding after_withdrawal after_withdrawn
   withdrawal-goes h e = rw (← h, e)
 
-  pub withdrawal-stops : {a : Withdrawn} {r : Refusal} {o : Outcome Withdrawal} →
-      done (withdrawal c a) ≡ o → a ≡ Withdrawn.Refused r → stopped c bids r n ≡ after_withdrawal next n bids o
+  pub withdrawal-stops : {a : (Result ℕ Refusal)} {r : Refusal} {o : Outcome Withdrawal} →
+      done (withdrawal c a) ≡ o → a ≡ Err r → stopped c bids r n ≡ after_withdrawal next n bids o
   unfolding after_withdrawal after_withdrawn
   withdrawal-stops h e = rw (← h, e)
+
+-- The error that a `?` hands up
+pub stopped_up : {T E : Type 0} {e : E} (r : Result T E) → IsErrAnd r (λ s. s ≡ e) → r ≡ Err e
+stopped_up r h = let p = err_from_is_err_and r h in p.1 ∙ ap Err p.2
+
+-- The code's word for both
+module _ (n bids : ℕ) {c : Board} where
+  pub arrival-says : {a : Result ℕ Refusal} {o : Outcome Arrival} → done (arrival c a) ≡ o → done (after_call n bids c a) ≡ after_arrival finished n bids o
+  unfolding after_arrival after_arrived
+  arrival-says {a = Ok k} h = rw (← h) refl
+  arrival-says {a = Err r} h = rw (← h) refl
+
+  pub withdrawal-says : {a : Result ℕ Refusal} {o : Outcome Withdrawal} → done (withdrawal c a) ≡ o → done (after_call n bids c a) ≡ after_withdrawal finished n bids o
+  unfolding after_withdrawal after_withdrawn
+  withdrawal-says {a = Ok k} h = rw (← h) refl
+  withdrawal-says {a = Err r} h = rw (← h) refl
+
+-- A refusal that is told at its line
+pub said-at-line : (n : ℕ) (b : Board) (a : Result ℕ Refusal) (r : Result ℕ AtLine) (bids : ℕ) →
+    MatchResult a (λ k. r ≡ Ok k) (λ e. r ≡ Err (record { refusal = e; line = n })) → done (after_line bids b r) ≡ done (after_call n bids b a)
+said-at-line n b (Ok k) r bids h = ap (λ (r : Result ℕ AtLine). done (after_line bids b r)) h
+said-at-line n b (Err e) r bids h = ap (λ (r : Result ℕ AtLine). done (after_line bids b r)) h
+
+-- What was answered before
+pub served-before : {T : Type 0} (n : ℕ) (a : Result T Refusal) (x : T) →
+    MatchResult a (λ y. ◌≡◌ {A = Result T AtLine} (Ok x) (Ok y)) (λ e. ◌≡◌ {A = Result T AtLine} (Ok x) (Err (record { refusal = e; line = n }))) → a ≡ Ok x
+served-before n (Ok y) x h = let q : x ≡ y = cc in rw q
+served-before n (Err e) x h = let z : ◌≡◌ {A = ℕ} 0 1 = cc in absurd (omega arith)
+
+pub refused-before : {T : Type 0} (n : ℕ) (a : Result T Refusal) (s : AtLine) →
+    MatchResult a (λ y. ◌≡◌ {A = Result T AtLine} (Err s) (Ok y)) (λ e. ◌≡◌ {A = Result T AtLine} (Err s) (Err (record { refusal = e; line = n }))) →
+    (e : Refusal) × (a ≡ Err e) × (s ≡ record { refusal = e; line = n })
+refused-before n (Ok y) s h = let z : ◌≡◌ {A = ℕ} 0 1 = cc in absurd (omega arith)
+refused-before n (Err e) s h = let q : s ≡ record { refusal = e; line = n } = cc in (e, refl, q)
 
 -- ---- A line carried out: the lines that follow go on from there, or it is refused
 
 pub data Carried (n : ℕ) (b : Board) (bids : ℕ) (command : Command) : Replayed → Type 0 where
   goes : {c : Board} {m : ℕ} → ((next : Next) → carry_out next n b bids command ≡ next c m) → (ReachedBy b bids → ReachedBy c m) →
-      (command ≡ malformed → ⊥) → Carried n b bids command (replayed c m Ending.Finished)
+      (command ≡ malformed → ⊥) → Carried n b bids command (replayed c m (Ok tt))
   stops : {c : Board} {r : Refusal} → ((next : Next) → carry_out next n b bids command ≡ stopped c bids r n) →
-      Carried n b bids command (replayed c bids (Ending.Stopped r n))
+      Carried n b bids command (replayed c bids (halted r n))
 
 pub carried : (n : ℕ) (b : Board) (bids : ℕ) (command : Command) → (r : Replayed) × Carried n b bids command r
 unfolding carry_out
@@ -97,19 +123,19 @@ carried n b bids (places k c) = (_, stops {r = Refusal.Line n} (λ next. refl))
 carried n b bids malformed = (_, stops {r = Refusal.Line n} (λ next. refl))
 carried n b bids (arrives edges) = let u = arrive_ends b edges in go u.0.board u.0.answer (sym u.1)
   where
-    go : (c : Board) (a : Arrived) → done (arrival c a) ≡ arrive_of b edges → (r : Replayed) × Carried n b bids (arrives edges) r
-    go c (Arrived.Bids k) h =
+    go : (c : Board) (a : Result ℕ Refusal) → done (arrival c a) ≡ arrive_of b edges → (r : Replayed) × Carried n b bids (arrives edges) r
+    go c (Ok k) h =
         (_, goes (λ next. sym (arrival-goes next n bids h refl)) (arrival-reached edges h refl) (λ e. let z : ◌≡◌ {A = ℕ} 0 1 = cc in omega arith))
-    go c (Arrived.Refused r) h = (_, stops (λ next. sym (arrival-stops next n bids h refl)))
+    go c (Err r) h = (_, stops (λ next. sym (arrival-stops next n bids h refl)))
 carried n b bids (withdraws items) = let u = withdraw_ends b items in go u.0.board u.0.answer (sym u.1)
   where
-    go : (c : Board) (a : Withdrawn) → done (withdrawal c a) ≡ withdraw_of b items → (r : Replayed) × Carried n b bids (withdraws items) r
-    go c (Withdrawn.Bids k) h =
+    go : (c : Board) (a : Result ℕ Refusal) → done (withdrawal c a) ≡ withdraw_of b items → (r : Replayed) × Carried n b bids (withdraws items) r
+    go c (Ok k) h =
         (_, goes (λ next. sym (withdrawal-goes next n bids h refl)) (withdrawal-reached items h refl) (λ e. let z : ◌≡◌ {A = ℕ} 0 1 = cc in omega arith))
-    go c (Withdrawn.Refused r) h = (_, stops (λ next. sym (withdrawal-stops next n bids h refl)))
+    go c (Err r) h = (_, stops (λ next. sym (withdrawal-stops next n bids h refl)))
 
 -- An ending is one of two
-pub unfinished : {A : Type 0} {r : Refusal} {n : ℕ} → Ending.Stopped r n ≡ Ending.Finished → A
+pub unfinished : {A : Type 0} {r : Refusal} {n : ℕ} → ◌≡◌ {A = Ending} (halted r n) (Ok tt) → A
 unfinished e = let z : ◌≡◌ {A = ℕ} 0 1 = cc in absurd (omega arith)
 
 module _ {n : ℕ} {b : Board} {bids : ℕ} {command : Command} where
@@ -125,12 +151,12 @@ module _ {n : ℕ} {b : Board} {bids : ℕ} {command : Command} where
       let q : u.0 ≡ r = cc in
       subst (Carried n b bids command) q u.1
 
-  goes_on : {r : Replayed} → Carried n b bids command r → r.answer ≡ Ending.Finished →
+  goes_on : {r : Replayed} → Carried n b bids command r → r.answer ≡ Ok tt →
       ((next : Next) → carry_out next n b bids command ≡ next r.board r.bids) × (ReachedBy b bids → ReachedBy r.board r.bids) × (command ≡ malformed → ⊥)
   goes_on (goes f g h) e = (f, g, h)
   goes_on (stops f) e = unfinished e
 
-  stops-there : {r : Replayed} {q : Refusal} {m : ℕ} → Carried n b bids command r → r.answer ≡ Ending.Stopped q m → (next : Next) → carry_out next n b bids command ≡ done r
+  stops-there : {r : Replayed} {q : Refusal} {m : ℕ} → Carried n b bids command r → r.answer ≡ halted q m → (next : Next) → carry_out next n b bids command ≡ done r
   stops-there (goes f g h) e next = unfinished (sym e)
   stops-there (stops f) e next = f next
 
@@ -189,10 +215,10 @@ module _ {s : List ℕ} {start first : ℕ} {b₀ : Board} {at n : ℕ} {b : Boa
     here : carry_out (after s at n b bids (length s + 1 + first - (n + 1))) n b bids (command_of (line_at s at)) ≡ all_lines s start first b₀
     here = sym (rw turns (lines-turn s at n b bids (length s + 1 + first - (n + 1)) h)) ∙ w.rest
 
-    pub replaying-stops : {q : Refusal} {m : ℕ} → r.answer ≡ Ending.Stopped q m → done r ≡ all_lines s start first b₀
+    pub replaying-stops : {q : Refusal} {m : ℕ} → r.answer ≡ halted q m → done r ≡ all_lines s start first b₀
     replaying-stops a = sym (stops-there step a _) ∙ here
 
-    pub replaying-on : r.answer ≡ Ending.Finished → (at < l.next) × Replaying s start first b₀ l.next (n + 1) r.board r.bids
+    pub replaying-on : r.answer ≡ Ok tt → (at < l.next) × Replaying s start first b₀ l.next (n + 1) r.board r.bids
     replaying-on a =
         let g = goes_on step a in
         let o = line_on s at g.2 in
@@ -206,6 +232,10 @@ module _ {s : List ℕ} {start first : ℕ} {b₀ : Board} {at n : ℕ} {b : Boa
             rest = sym (g.0 _) ∙ here;
           },
         )
+
+-- A line that is not of the form stops the replay
+pub bad-stops : (n : ℕ) (b : Board) (bids : ℕ) → done (replayed b bids (halted (Refusal.Line n) n)) ≡ carry_out finished n b bids (command_of bad_line)
+bad-stops n b bids = sym (carries-none bad_line finished n b bids refl refl)
 
 -- ---- The lines that open the board
 
@@ -250,6 +280,10 @@ module _ {s : List ℕ} {start items p q at n low : ℕ} {counts : List ℕ} (w 
   pub placing-ends : length s ≤ at → finished (opened p q counts) 0 ≡ all_placing s start items p q
   placing-ends h = sym (rw more (places-end s at n items p q low counts (length s + 3 - (n + 1)) h)) ∙ w.rest
 
+  -- The text is over: there are no others
+  pub placing-past : length s ≤ at → all_lines s at n (opened p q counts) ≡ all_placing s start items p q
+  placing-past h = lines_end s at n (opened p q counts) 0 (length s) h ∙ placing-ends h
+
   module _ (h : at < length s) {l : Line} (e : l ≡ line_at s at) where
     -- Line n, as it was read
     now-at : place_line (after_place s at n items p q low counts (length s + 3 - (n + 1))) (others s at n items p q low counts (length s + 3 - (n + 1))) n items p q low counts
@@ -264,11 +298,11 @@ module _ {s : List ℕ} {start items p q at n low : ℕ} {counts : List ℕ} (w 
     placing-rest t = sym (places-none l _ _ n items p q low counts t) ∙ now-at
 
     module _ (t : is_places l ≡ true) {v : Verdict} (c : v ≡ first_of (place_checks items p q low counts (get_or l.numbers 0 0) (get_or l.numbers 1 0))) where
-      pub placing-stops : {r : Refusal} → v ≡ Verdict.Refused r → stopped (opened p q counts) 0 r (at_line r n) ≡ all_placing s start items p q
+      pub placing-stops : {r : Refusal} → v ≡ Err r → stopped (opened p q counts) 0 r (at_line r n) ≡ all_placing s start items p q
       unfolding after_places
       placing-stops f = let g = sym c ∙ f in sym (places-goes l _ _ n items p q low counts t ∙ rw g) ∙ now-at
 
-      pub placing-on : v ≡ Verdict.Served →
+      pub placing-on : v ≡ Ok tt →
           (at < l.next) × Placing s start items p q l.next (n + 1) (get_or l.numbers 0 0) (set counts (get_or l.numbers 0 0 - 1) (get_or l.numbers 1 0))
       unfolding after_places place_checks
       placing-on f =
@@ -318,10 +352,10 @@ module _ (s : List ℕ) where
           omega arith)).1
 
       module _ {v : Verdict} (w : v ≡ first_of (open_checks (get_or l.numbers 0 0) (get_or l.numbers 1 0) (get_or l.numbers 2 0) (ones (get_or l.numbers 0 0)))) where
-        pub replay-opened : v ≡ Verdict.Served → all_placing s l.next (get_or l.numbers 0 0) (get_or l.numbers 1 0) (get_or l.numbers 2 0) ≡ replay_of s
+        pub replay-opened : v ≡ Ok tt → all_placing s l.next (get_or l.numbers 0 0) (get_or l.numbers 1 0) (get_or l.numbers 2 0) ≡ replay_of s
         unfolding first_line after_opened open_of open_by
         replay-opened f = let g = sym w ∙ f in sym (ap (first_line s l.next) (says-opens l t) ∙ rw g) ∙ begins
 
-        pub replay-refused : {r : Refusal} → v ≡ Verdict.Refused r → stopped (opened 0 0 []) 0 r 1 ≡ replay_of s
+        pub replay-refused : {r : Refusal} → v ≡ Err r → stopped (opened 0 0 []) 0 r 1 ≡ replay_of s
         unfolding first_line after_opened open_of open_by
         replay-refused f = let g = sym w ∙ f in sym (ap (first_line s l.next) (says-opens l t) ∙ rw g) ∙ begins

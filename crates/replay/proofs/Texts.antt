@@ -1,4 +1,5 @@
 -- What comes of a text is what its lines say: each way, and so exactly.
+use Rattle.std.specs.Prelude.{Err, Ok}
 use mathlib.Core.Path.{◌≡◌, refl, sym, ap, subst, ◌∙◌}
 use mathlib.Core.Logic.{⊎_elim}
 use mathlib.Core.Bool.{Bool, true, false}
@@ -13,33 +14,27 @@ use Rattle.duality.proofs.Decide.{clash}
 use Rattle.text.specs.Line.{line_at}
 use Rattle.refusals.specs.declared.Refusal.{Refusal}
 use Rattle.refusals.specs.declared.Refusal.TheVariants.{Unknown, Order}
-use Rattle.refusals.specs.declared.Verdict.{Verdict}
-use Rattle.refusals.specs.Demand1.{first_of}
+use Rattle.refusals.specs.Demand1.{first_of, Verdict}
 use Rattle.refusals.specs.Told.{served, refused}
 use Rattle.supply.specs.declared.record.Board.{Board}
 use Rattle.board.specs.declared.record.Edge.{Edge}
 use Rattle.board.specs.Limits.{max_text}
 use Rattle.board.specs.Ranges.{Within, within_test}
 use Rattle.board.proofs.Tests.{within-decides}
-use Rattle.supply.specs.declared.opening.Opened.{Opened}
-use Rattle.supply.specs.declared.opening.Opening.{Opening}
-use Rattle.supply.specs.Opening.{opened, open_checks, open_by, open_of, OpenAnswers}
+use Rattle.supply.specs.Opening.{Opening, opened, open_checks, open_by, open_of, OpenAnswers}
 use Rattle.bidding.specs.Rule.{Outcome, done}
 use Rattle.auction.specs.Arrive.{ArriveAnswers}
 use Rattle.auction.specs.Withdraw.{WithdrawAnswers}
 use Rattle.auction.proofs.Told.{opened-refused, opened-ready, arrived_refused, arrived-bids, withdrawn_refused, withdrawn-bids}
 use Rattle.auction.proofs.Demand2.{arrive-either, withdraw-either}
 use Rattle.auction.proofs.Opening.{ready-served, opening-either, opening-ready}
-use Rattle.replay.specs.declared.Ending.{Ending}
 use Rattle.replay.specs.declared.Replayed.{Replayed}
 use Rattle.replay.specs.Counted.{Counted}
-use Rattle.replay.specs.Replay.{Command, opens, places, arrives, withdraws, malformed, command_of, finished, stopped}
-use Rattle.replay.specs.Replay.{carry_out, lines_from, place_checks, at_line, after_places, place_line, place_lines, ones, after_opened, first_line, replay_of}
+use Rattle.replay.specs.Replay.{Command, opens, places, arrives, withdraws, malformed, command_of, finished, stopped, halted, carry_out, lines_from, place_checks, at_line, after_places, place_line, place_lines, ones, after_opened, first_line, replay_of}
 use Rattle.replay.specs.ReplayLaws.{replayed}
 use Rattle.replay.specs.Says.{Says}
 use Rattle.replay.specs.TextDemand1.{Stage, beginning, running, Lines, first, placed, arrived, withdrew, NoPlaces, LineRefused, TextRefused, TextFinished}
-use Rattle.replay.proofs.ReplayLines.{Next, arrival-goes, arrival-stops, withdrawal-goes, withdrawal-stops, after, lines-turn, lines_end, all_lines}
-use Rattle.replay.proofs.ReplayLines.{after_place, others, places-turn, places-end, all_placing}
+use Rattle.replay.proofs.ReplayLines.{Next, arrival-goes, arrival-stops, withdrawal-goes, withdrawal-stops, after, lines-turn, lines_end, all_lines, after_place, others, places-turn, places-end, all_placing}
 use Rattle.replay.proofs.Saying.{line-said, said-ahead, Said, said, spoken, says-once}
 
 -- ---- A call's answer, and what follows its line
@@ -71,13 +66,13 @@ module _ (items p q : ℕ) (counts : List ℕ) {b : Board} where
   open-board : OpenAnswers items p q counts b (served 0) → b ≡ opened p q counts
   open-board a = sym a.board ∙ ap (λ (o : Opening). o.board) (opening-ready items p q counts (opened-ready (open_of items p q counts).answer a.tells))
 
-  open-refused : (r : Refusal) → OpenAnswers items p q counts b (refused r) → first_of (open_checks items p q counts) ≡ Verdict.Refused r
+  open-refused : (r : Refusal) → OpenAnswers items p q counts b (refused r) → first_of (open_checks items p q counts) ≡ Err r
   unfolding open_of open_by
   open-refused r a = go (first_of (open_checks items p q counts)) (opened-refused (open_of items p q counts).answer r a.tells)
     where
-      go : (v : Verdict) → (open_by p q counts v).answer ≡ Opened.Refused r → v ≡ Verdict.Refused r
-      go Verdict.Served e = let z : ◌≡◌ {A = ℕ} 0 1 = cc in absurd (omega arith)
-      go (Verdict.Refused x) e = let h : x ≡ r = cc in ap Verdict.Refused h
+      go : (v : Verdict) → (open_by p q counts v).answer ≡ Err r → v ≡ Err r
+      go (Ok tt) e = let z : ◌≡◌ {A = ℕ} 0 1 = cc in absurd (omega arith)
+      go (Err x) e = let h : x ≡ r = cc in ap Err h
 
 -- The first line
 module _ (s : List ℕ) (next k p q : ℕ) {b : Board} where
@@ -101,7 +96,7 @@ module _ (go : ℕ → List ℕ → Outcome Replayed) (rest : Outcome Replayed) 
     place-unordered f = rw (e, f)
 
     module _ (f : leb k low ≡ false) where
-      place-refused : (r : Refusal) → first_of (open_checks items p q (set counts (k - 1) c)) ≡ Verdict.Refused r →
+      place-refused : (r : Refusal) → first_of (open_checks items p q (set counts (k - 1) c)) ≡ Err r →
           place_line go rest n items p q low counts (places k c) ≡ stopped (opened p q counts) 0 r (at_line r n)
       unfolding place_line after_places place_checks first_of
       place-refused r g = rw (e, f, g)
@@ -176,8 +171,8 @@ not-withdrawal w v = differ w v (λ e. apart cc)
 -- ---- From the text to what its lines are
 
 pub data Fate (s : List ℕ) : Replayed → Type 0 where
-  stops : {n m : ℕ} {b : Board} {r : Refusal} → LineRefused s n b m r → Fate s (replayed b m (Ending.Stopped r n))
-  ends : {n e m : ℕ} {g : Stage} {b : Board} → Lines s n (length s) g b e m → Fate s (replayed b m Ending.Finished)
+  stops : {n m : ℕ} {b : Board} {r : Refusal} → LineRefused s n b m r → Fate s (replayed b m (halted r n))
+  ends : {n e m : ℕ} {g : Stage} {b : Board} → Lines s n (length s) g b e m → Fate s (replayed b m (Ok tt))
 
 abbrev Fated : List ℕ → Outcome Replayed → Type 0
 Fated s o = (r : Replayed) × (o ≡ done r) × Fate s r
@@ -298,8 +293,8 @@ module _ (s : List ℕ) (items p q : ℕ) where
 
 -- The whole text
 pub data TextFate (s : List ℕ) : Replayed → Type 0 where
-  stops : {n m : ℕ} {b : Board} {r : Refusal} → TextRefused s n b m r → TextFate s (replayed b m (Ending.Stopped r n))
-  ends : {e m : ℕ} {b : Board} → TextFinished s b e m → TextFate s (replayed b m Ending.Finished)
+  stops : {n m : ℕ} {b : Board} {r : Refusal} → TextRefused s n b m r → TextFate s (replayed b m (halted r n))
+  ends : {e m : ℕ} {b : Board} → TextFinished s b e m → TextFate s (replayed b m (Ok tt))
 
 text-fate : {s : List ℕ} {r : Replayed} → length s ≤ 65536 → Fate s r → TextFate s r
 text-fate h (stops t) = TextFate.stops (TextRefused.by-line h t)

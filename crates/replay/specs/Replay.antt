@@ -1,28 +1,22 @@
 -- The replay of a history text: "each line is tested and carried out before the next".
-use Rattle.std.specs.Prelude.{cond, not, ◌&&◌, List, [], ◌∷◌, ◌++◌, ℕ, zero, suc, ◌+◌, ◌-◌, ◌*◌, ◌/◌, ◌%◌, min, length, get_or, set, take, replicate, eqb, ltb, leb}
+use Rattle.std.specs.Prelude.{cond, not, ◌&&◌, List, [], ◌∷◌, ◌++◌, ℕ, zero, suc, ◌+◌, ◌-◌, ◌*◌, ◌/◌, ◌%◌, min, length, get_or, set, take, replicate, eqb, ltb, leb, Err, Ok, Result}
 use Rattle.text.specs.declared.line.Line.{Line}
 use Rattle.text.specs.Line.{line_at}
 use Rattle.supply.specs.declared.record.Board.{Board}
 use Rattle.board.specs.declared.record.Edge.{Edge}
 use Rattle.refusals.specs.declared.Refusal.{Refusal}
+use Rattle.refusals.specs.declared.AtLine.{AtLine}
 use Rattle.refusals.specs.declared.Refusal.TheVariants.{Unknown, Order}
-use Rattle.refusals.specs.declared.Verdict.{Verdict}
 use Rattle.refusals.specs.Codes.{code_of}
-use Rattle.refusals.specs.Demand1.{Check, check_for, first_of}
-use Rattle.supply.specs.declared.opening.Opened.{Opened}
-use Rattle.auction.specs.declared.arrive.Arrived.{Arrived}
-use Rattle.auction.specs.declared.arrive.Arrival.{Arrival}
-use Rattle.auction.specs.declared.withdraw.Withdrawn.{Withdrawn}
-use Rattle.auction.specs.declared.withdraw.Withdrawal.{Withdrawal}
-use Rattle.replay.specs.declared.Ending.{Ending}
+use Rattle.refusals.specs.Demand1.{Check, check_for, first_of, Verdict}
+use Rattle.auction.specs.Arrive.{Arrival, arrive_of}
+use Rattle.auction.specs.Withdraw.{Withdrawal, withdraw_of}
 use Rattle.replay.specs.declared.Replayed.{Replayed}
 use Rattle.board.specs.Limits.{max_edges, max_text}
 use Rattle.board.specs.Cells.{edge}
 use Rattle.board.specs.Ranges.{within_test}
 use Rattle.bidding.specs.Rule.{Outcome, done, spent}
 use Rattle.supply.specs.Opening.{opened, open_checks, open_of}
-use Rattle.auction.specs.Arrive.{arrive_of}
-use Rattle.auction.specs.Withdraw.{withdraw_of}
 
 -- ---- A line's form
 
@@ -52,25 +46,33 @@ command_of l =
 
 -- ---- Lines carried out. n is the number of the line, bids are those made so far
 
+-- How a replay ends: at the end of the text, or with a refusal at a line
+abbrev pub Ending : Type 0
+Ending = Result (Unit {0}) AtLine
+
+-- A refusal at a line
+abbrev pub halted : {A : Type 0} → Refusal → ℕ → Result A AtLine
+halted r n = Err (record { refusal = r; line = n })
+
 -- How far a replay came: the board, the bids in all, and whether the text is finished or where it stopped
 abbrev pub finished : Board → ℕ → Outcome Replayed
-finished b bids = done (record { board = b; bids = bids; answer = Ending.Finished })
+finished b bids = done (record { board = b; bids = bids; answer = Ok tt })
 
 abbrev pub stopped : Board → ℕ → Refusal → ℕ → Outcome Replayed
-stopped b bids r n = done (record { board = b; bids = bids; answer = Ending.Stopped r n })
+stopped b bids r n = done (record { board = b; bids = bids; answer = halted r n })
 
 -- After a call: `next` makes the following lines, unless the call was refused
-unfoldable pub after_arrived : (Board → ℕ → Outcome Replayed) → ℕ → Board → ℕ → Arrived → Outcome Replayed
-after_arrived next n b bids (Arrived.Bids k) = next b (bids + k)
-after_arrived next n b bids (Arrived.Refused r) = stopped b bids r n
+unfoldable pub after_arrived : (Board → ℕ → Outcome Replayed) → ℕ → Board → ℕ → Result ℕ Refusal → Outcome Replayed
+after_arrived next n b bids (Ok k) = next b (bids + k)
+after_arrived next n b bids (Err r) = stopped b bids r n
 
 unfoldable pub after_arrival : (Board → ℕ → Outcome Replayed) → ℕ → ℕ → Outcome Arrival → Outcome Replayed
 after_arrival next n bids spent = spent
 after_arrival next n bids (done a) = after_arrived next n a.board bids a.answer
 
-unfoldable pub after_withdrawn : (Board → ℕ → Outcome Replayed) → ℕ → Board → ℕ → Withdrawn → Outcome Replayed
-after_withdrawn next n b bids (Withdrawn.Bids k) = next b (bids + k)
-after_withdrawn next n b bids (Withdrawn.Refused r) = stopped b bids r n
+unfoldable pub after_withdrawn : (Board → ℕ → Outcome Replayed) → ℕ → Board → ℕ → Result ℕ Refusal → Outcome Replayed
+after_withdrawn next n b bids (Ok k) = next b (bids + k)
+after_withdrawn next n b bids (Err r) = stopped b bids r n
 
 unfoldable pub after_withdrawal : (Board → ℕ → Outcome Replayed) → ℕ → ℕ → Outcome Withdrawal → Outcome Replayed
 after_withdrawal next n bids spent = spent
@@ -108,8 +110,8 @@ at_line r n = cond (eqb (code_of r).number 16 && eqb (code_of r).place 0) 1 n
 
 -- After a `P` line: `next` makes the following lines, unless it was refused
 unfoldable pub after_places : Outcome Replayed → ℕ → Board → Verdict → Outcome Replayed
-after_places next n b Verdict.Served = next
-after_places next n b (Verdict.Refused r) = stopped b 0 r (at_line r n)
+after_places next n b (Ok tt) = next
+after_places next n b (Err r) = stopped b 0 r (at_line r n)
 
 -- A line after the first, while the board is being opened: a `P` line, or the first of the others, which `rest` makes
 unfoldable pub place_line : (ℕ → List ℕ → Outcome Replayed) → Outcome Replayed → ℕ → ℕ → ℕ → ℕ → ℕ → List ℕ → Command → Outcome Replayed
@@ -134,9 +136,9 @@ abbrev pub ones : ℕ → List ℕ
 ones items = replicate items 1
 
 -- "First line `K`, kettles, p, q"; "an empty text is 14 at line 1"
-unfoldable pub after_opened : List ℕ → ℕ → ℕ → ℕ → ℕ → Opened → Outcome Replayed
-after_opened s at items p q Opened.Ready = place_lines (suc (length s)) s at 2 items p q 0 (ones items)
-after_opened s at items p q (Opened.Refused r) = stopped (opened 0 0 []) 0 r 1
+unfoldable pub after_opened : List ℕ → ℕ → ℕ → ℕ → ℕ → Verdict → Outcome Replayed
+after_opened s at items p q (Ok tt) = place_lines (suc (length s)) s at 2 items p q 0 (ones items)
+after_opened s at items p q (Err r) = stopped (opened 0 0 []) 0 r 1
 
 unfoldable pub first_line : List ℕ → ℕ → Command → Outcome Replayed
 first_line s at (opens k p q) = after_opened s at k p q (open_of k p q (ones k)).answer

@@ -1,21 +1,31 @@
 -- Statements about the replay: it ends, a text that is finished is a history, and a line's numbers are all its edges or items.
-use Rattle.std.specs.Prelude.{◌≡◌, List, ℕ, suc, ◌/◌, ◌%◌, ◌<◌, length, get_or}
+use Rattle.std.specs.Prelude.{Result, Ok, Err, ◌≡◌, List, ℕ, suc, ◌+◌, ◌/◌, ◌%◌, ◌<◌, length, get_or}
 use Rattle.text.specs.Line.{line_at}
 use Rattle.text.specs.Form.{LineForm}
 use Rattle.supply.specs.declared.record.Board.{Board}
-use Rattle.replay.specs.declared.Ending.{Ending}
 use Rattle.replay.specs.declared.Replayed.{Replayed}
 use Rattle.refusals.specs.declared.Refusal.{Refusal}
+use Rattle.refusals.specs.declared.AtLine.{AtLine}
 use Rattle.refusals.specs.Told.{served}
 use Rattle.supply.specs.Opening.{OpenAnswers}
 use Rattle.bidding.specs.Rule.{Outcome, done}
 use Rattle.auction.specs.Histories.{Reached}
-use Rattle.replay.specs.Replay.{arrives, withdraws, pairs_of, command_of, carry_out, replay_of}
+use Rattle.replay.specs.Replay.{arrives, withdraws, pairs_of, command_of, carry_out, replay_of, Ending, halted}
 use Rattle.replay.specs.TextDemand1.{Stage, beginning, Lines, LineRefused, TextFinished, ReplayAnswers}
 
 -- How far a replay came
 abbrev pub replayed : Board → ℕ → Ending → Replayed
 replayed b bids answer = record { board = b; bids = bids; answer = answer }
+
+-- After a call at line n: the board that it left, and what it answered
+abbrev pub after_call : ℕ → ℕ → Board → Result ℕ Refusal → Replayed
+after_call n bids b (Ok k) = replayed b (bids + k) (Ok tt)
+after_call n bids b (Err r) = replayed b bids (halted r n)
+
+-- The same with the refusal told at its line
+abbrev pub after_line : ℕ → Board → Result ℕ AtLine → Replayed
+after_line bids b (Ok k) = replayed b (bids + k) (Ok tt)
+after_line bids b (Err s) = replayed b bids (Err s)
 
 -- A history with so many bids reaches the board
 abbrev pub ReachedBy : Board → ℕ → Type 0

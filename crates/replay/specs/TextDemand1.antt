@@ -1,6 +1,6 @@
 -- Demand 1 for texts: "each line is tested and carried out before the next", and the text is refused at the first line that is not of the form or
 -- whose call refuses.
-use Rattle.std.specs.Prelude.{◌≡◌, ◌↔◌, List, [], ℕ, suc, ◌+◌, ◌-◌, ◌<◌, ◌≤◌, length, set}
+use Rattle.std.specs.Prelude.{◌≡◌, ◌↔◌, List, [], ℕ, suc, ◌+◌, ◌-◌, ◌<◌, ◌≤◌, length, set, Ok, Err}
 use Rattle.refusals.specs.declared.Refusal.{Refusal}
 use Rattle.refusals.specs.declared.Refusal.TheVariants.{Unknown, Order}
 use Rattle.refusals.specs.declared.Told.{Told}
@@ -14,8 +14,7 @@ use Rattle.bidding.specs.Rule.{done}
 use Rattle.auction.specs.Arrive.{ArriveAnswers}
 use Rattle.auction.specs.Withdraw.{WithdrawAnswers}
 use Rattle.auction.specs.Histories.{once_per_place}
-use Rattle.replay.specs.declared.Ending.{Ending}
-use Rattle.replay.specs.Replay.{opens, places, arrives, withdraws, at_line, ones, finished, stopped, replay_of}
+use Rattle.replay.specs.Replay.{opens, places, arrives, withdraws, at_line, ones, finished, stopped, replay_of, Ending}
 use Rattle.replay.specs.Says.{Says}
 
 -- ---- What a text is, line by line
@@ -90,8 +89,8 @@ pub record TextFinished (s : List ℕ) (b : Board) (entries bids : ℕ) : Type 0
 
 -- What is told: the bids in all, or the refusal at its line with the bids so far
 abbrev pub ending_told : Ending → ℕ → Told
-ending_told Ending.Finished bids = served bids
-ending_told (Ending.Stopped r line) bids = refused_at r line bids
+ending_told (Ok tt) bids = served bids
+ending_told (Err s) bids = refused_at s.refusal s.line bids
 
 -- A replay leaves the board b, and tells t
 pub record ReplayAnswers (s : List ℕ) (b : Board) (t : Told) : Type 0 where

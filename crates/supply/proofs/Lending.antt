@@ -1,6 +1,6 @@
 -- What is decided of the lists that a caller lends, and what is written to them.
+use Rattle.std.specs.Prelude.{Ok}
 use mathlib.Core.Path.{◌≡◌, refl, ap, ◌∙◌}
-use mathlib.Core.Bool.{true, false}
 use Prim.Native.Nat.{ℕ, zero, suc, ◌≤◌, ◌<◌}
 use native.Mathlib.Omega.{arith}
 use lib.ListN.{length}
@@ -13,7 +13,6 @@ use Rattle.places.specs.Places.{item_of}
 use Rattle.places.specs.Total.{least_price}
 use Rattle.places.proofs.PlaceLaws.{place-below}
 use Rattle.refusals.specs.declared.Refusal.TheVariants.{Short, Spoilt}
-use Rattle.refusals.specs.declared.Verdict.TheVariants.{Served, Refused}
 use Rattle.refusals.specs.Demand1.{first_of}
 use Rattle.refusals.proofs.Verdicts.{Decided, ends, next, served-next}
 use Rattle.board.specs.declared.lent.Columns.{Columns}
@@ -25,8 +24,7 @@ use Rattle.supply.specs.declared.record.Board.{Board}
 use Rattle.supply.specs.Board.{auction_of, places_at, all_places}
 use Rattle.supply.specs.ByItem.{price_at, gain_at, matching_of}
 use Rattle.supply.specs.Sound.{Sound}
-use Rattle.supply.specs.SoundTest.{sound_test}
-use Rattle.supply.specs.Lent.{Roomy, ReadOutMet, lent_checks, read_out_checks}
+use Rattle.supply.specs.Lent.{Roomy, ReadOutMet, read_out_checks}
 use Rattle.supply.specs.Columns.{ReadByItem}
 use Rattle.supply.proofs.Reading.{least-price-as}
 use Rattle.supply.proofs.SoundLaw.{sound-decides}
@@ -49,23 +47,8 @@ module _ (b : Board) (l : Lists) where
       next (reword (no-decides (sound-decides b)) (λ f. ReadOutMet.spoilt f) read-unsound)
       (next (reword (no-decides roomy-decides) (λ f. ReadOutMet.short f) short-met) ends)
 
--- The verdict, as the code comes to it
-module _ (b : Board) (plan prices gains : ℕ) where
-  pub lent-spoilt : sound_test b ≡ false → Refused Spoilt ≡ first_of (lent_checks b plan prices gains)
-  unfolding first_of
-  lent-spoilt e = rw e
-
-  module _ (s : sound_test b ≡ true) where
-    pub lent-short : room_test b.market.arrived b.items.count plan prices gains ≡ false → Refused Short ≡ first_of (lent_checks b plan prices gains)
-    unfolding first_of
-    lent-short e = rw (s, e)
-
-    pub lent-served : room_test b.market.arrived b.items.count plan prices gains ≡ true → Served ≡ first_of (lent_checks b plan prices gains)
-    unfolding first_of
-    lent-served e = rw (s, e)
-
 -- What is served is a sound board and lists with room
-pub lent-open : (b : Board) (l : Lists) → first_of (read_out_checks b l) ≡ Served → Sound b × Roomy b l
+pub lent-open : (b : Board) (l : Lists) → first_of (read_out_checks b l) ≡ Ok tt → Sound b × Roomy b l
 lent-open b l e =
     let u = served-next _ _ e in
     ((sound-decides b).sound (not-false _ u.0), (roomy-decides b l).sound (not-false _ (served-next _ _ u.1).0))

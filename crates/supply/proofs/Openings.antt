@@ -1,11 +1,12 @@
 -- Opening: the counts and the items that stand for them, the verdict as the code comes to it, what it decides, and that an opened board is sound.
+use Rattle.std.specs.Prelude.{Err, Ok}
 use mathlib.Core.Path.{◌≡◌, refl, sym, ap, ◌∙◌}
-use mathlib.Core.Bool.{true, false}
-use mathlib.Core.List.{List, [], ◌∷◌, ◌++◌}
+use mathlib.Core.Bool.{true}
+use mathlib.Core.List.{List, [], ◌∷◌}
 use Prim.Native.Nat.{ℕ, suc, ◌+◌, ◌*◌, ◌≤◌, ◌<◌}
 use native.Mathlib.Omega.{arith}
 use lib.ListN.{length, replicate, length-replicate}
-use lib.Dec.{eqb, ltb}
+use lib.Dec.{ltb}
 use borrow.Author.Tests.{not-false, eqb-true, ltb-false}
 use Rattle.duality.specs.Sums.{sum_to}
 use Rattle.duality.specs.Lists.{cells}
@@ -13,15 +14,13 @@ use Rattle.duality.proofs.Sums.{sum_to-eq, sum_to-most, sum_to-term}
 use Rattle.duality.proofs.Decide.{reword, eq-decides, lt-decides, all-decides}
 use Rattle.refusals.specs.declared.Refusal.{Refusal}
 use Rattle.refusals.specs.declared.Refusal.TheVariants.{Count, Slack, Uneven, Places}
-use Rattle.refusals.specs.declared.Verdict.{Verdict}
-use Rattle.refusals.specs.declared.Verdict.TheVariants.{Served, Refused}
-use Rattle.refusals.specs.Demand1.{Check, check_for, first_of}
-use Rattle.refusals.proofs.Verdicts.{Decided, ends, next, decided-append, stops, passes_on, served-both, served-next}
+use Rattle.refusals.specs.Demand1.{Check, check_for, first_of, Verdict}
+use Rattle.refusals.proofs.Verdicts.{Decided, ends, next, decided-append, served-both, served-next}
 use Rattle.refusals.proofs.Places.{cells-served, cells-decide}
 use Rattle.board.specs.declared.record.Auction.{Auction}
 use Rattle.board.specs.declared.units.Scaled.{Scaled}
 use Rattle.board.specs.Limits.{max_items, max_bidders}
-use Rattle.board.specs.Ranges.{SlackIn, Within, within_test, slack_test}
+use Rattle.board.specs.Ranges.{SlackIn, Within, within_test}
 use Rattle.board.specs.Cells.{scaled}
 use Rattle.board.specs.Lent.{written}
 use Rattle.board.specs.Cells as cell
@@ -33,7 +32,6 @@ use Rattle.board.proofs.Tests.{no-decides, within-decides, slack-decides}
 use Rattle.board.proofs.Written.{written-length, written_in, written-past}
 use Rattle.supply.specs.declared.record.Board.{Board}
 use Rattle.supply.specs.declared.record.Items.{Items}
-use Rattle.supply.specs.declared.opening.Opened.{Opened}
 use Rattle.supply.specs.Board.{max_places, places_in, all_places, start_in, item_at}
 use Rattle.supply.specs.Sound.{Laid, Sound}
 use Rattle.supply.specs.Opening.{Counts, items_of, opened, OpenMet, count_checks, open_checks, open_by, open_of}
@@ -70,20 +68,20 @@ pub all-counted : (counts : List ℕ) → length counts ≤ max_items → sum_to
 all-counted counts few =
     rw (items-counted counts) (sum_to-eq (length counts) (cells counts) (places_in (items_of counts)) (λ k l. sym (places-counted counts k few l)))
 
--- No counts
-pub counts-none : Counts []
-counts-none = record { few = omega arith; each = λ k l. omega arith }
-
-pub opened-items : (p q : ℕ) (counts : List ℕ) → (opened p q counts).items ≡ items_of counts
-unfolding opened
-opened-items p q counts = refl
-
 -- The auction over places, with the items beside it
 pub board-opened : (p q : ℕ) (counts : List ℕ) {places : ℕ} {items : Items} {a : Auction} → items ≡ items_of counts →
     places ≡ sum_to (length counts) (cells counts) → a ≡ place.opened places p q →
     record { items = items; market = a.market; state = a.state; weights = replicate (max_bidders * max_items) 0 } ≡ opened p q counts
 unfolding opened place.opened
 board-opened p q counts e f h = rw (h, f, e)
+
+-- The same from a board that is all 0
+pub blank-opened : (p q : ℕ) (counts : List ℕ) {places : ℕ} {items : Items} {b : Board} → b ≡ opened 0 0 [] → items ≡ items_of counts →
+    places ≡ sum_to (length counts) (cells counts) →
+    record { items = items; market = record { items = places; slack = record { p = p; q = q }; arrived = b.market.arrived; withdrawn = b.market.withdrawn }; state = b.state; weights = b.weights }
+    ≡ opened p q counts
+unfolding opened place.opened
+blank-opened p q counts h e f = rw (h, f, e)
 
 -- ---- The verdict, as the code comes to it
 
@@ -97,55 +95,23 @@ pub record OpenedOn (items p q : ℕ) (counts : List ℕ) : Type 0 where
   pub all : sum_to (length counts) (cells counts) ≤ max_items
 
 -- Counts that pass their checks are within limits
-pub counts_each : (counts : List ℕ) → first_of (count_checks counts) ≡ Served → (k : ℕ) → k < length counts → Within 1 max_places (cells counts k)
+pub counts_each : (counts : List ℕ) → first_of (count_checks counts) ≡ Ok tt → (k : ℕ) → k < length counts → Within 1 max_places (cells counts k)
 counts_each counts e =
     (all-decides (length counts) _ (λ k. Within 1 max_places (cells counts k)) (λ k. within-decides max_places (cells counts k))).sound
     ((cells-served _ _ (length counts)).complete e)
+
+-- Of as many items as there may be, such counts are kept
+pub open_kept : {v : Verdict} (items : ℕ) (counts : List ℕ) → within_test max_items items ≡ true → length counts ≡ items → v ≡ first_of (count_checks counts) →
+    v ≡ Ok tt → Counts counts
+open_kept items counts w u e f =
+    let each = counts_each counts (sym e ∙ f) in
+    record { few = omega (arith, u, ((within-decides max_items items).sound w).high); each = λ k l. (each k l).high }
 
 module _ (items p q : ℕ) (counts : List ℕ) where
   abbrev last_check : List Check
   last_check = check_for (Places 0) (ltb max_items (sum_to (length counts) (cells counts))) ∷ []
 
-  pub open-count : within_test max_items items ≡ false → Refused Count ≡ first_of (open_checks items p q counts)
-  unfolding open_checks first_of
-  open-count e = rw e
-
-  module _ (w : within_test max_items items ≡ true) where
-    pub open-slack : slack_test 1 p q ≡ false → Refused Slack ≡ first_of (open_checks items p q counts)
-    unfolding open_checks first_of
-    open-slack e = rw (w, e)
-
-    module _ (s : slack_test 1 p q ≡ true) where
-      pub open-uneven : eqb (length counts) items ≡ false → Refused Uneven ≡ first_of (open_checks items p q counts)
-      unfolding open_checks first_of
-      open-uneven e = rw (w, s, e)
-
-      module _ (u : eqb (length counts) items ≡ true) where
-        past : first_of (open_checks items p q counts) ≡ first_of (count_checks counts ++ last_check)
-        unfolding open_checks first_of
-        past = rw (w, s, u)
-
-        pub open-places : (v : Verdict) (r : Refusal) → v ≡ first_of (count_checks counts) → v ≡ Refused r → v ≡ first_of (open_checks items p q counts)
-        open-places v r e f = stops (count_checks counts) last_check v r e f ∙ sym past
-
-        pub open_kept : (v : Verdict) → v ≡ first_of (count_checks counts) → v ≡ Served → Counts counts
-        open_kept v e f =
-            let each = counts_each counts (sym e ∙ f) in
-            record {
-              few = omega (arith, eqb-true (length counts) items u, ((within-decides max_items items).sound w).high);
-              each = λ k l. (each k l).high;
-            }
-
-        module _ (v : Verdict) (e : v ≡ first_of (count_checks counts)) (f : v ≡ Served) where
-          pub open-over : ltb max_items (sum_to (length counts) (cells counts)) ≡ true → Refused (Places 0) ≡ first_of (open_checks items p q counts)
-          unfolding first_of
-          open-over h = passes_on (count_checks counts) last_check v (Refused (Places 0)) e f (rw h) ∙ sym past
-
-          pub open-served : ltb max_items (sum_to (length counts) (cells counts)) ≡ false → Served ≡ first_of (open_checks items p q counts)
-          unfolding first_of
-          open-served h = passes_on (count_checks counts) last_check v Served e f (rw h) ∙ sym past
-
-  pub opened-counts : first_of (open_checks items p q counts) ≡ Served → OpenedOn items p q counts
+  pub opened-counts : first_of (open_checks items p q counts) ≡ Ok tt → OpenedOn items p q counts
   unfolding open_checks
   opened-counts e =
       let a = served-next _ _ e in
@@ -164,13 +130,13 @@ module _ (items p q : ℕ) (counts : List ℕ) where
         all = ltb-false _ _ (served-next _ _ h.1).0;
       }
 
-  pub open-ready : {b : Board} → first_of (open_checks items p q counts) ≡ Served → b ≡ opened p q counts →
-      record { board = b; answer = Opened.Ready } ≡ open_of items p q counts
+  pub open-ready : {b : Board} → first_of (open_checks items p q counts) ≡ Ok tt → b ≡ opened p q counts →
+      record { board = b; answer = Ok tt } ≡ open_of items p q counts
   unfolding open_of open_by
   open-ready e h = rw (e, h)
 
-  pub open-refused : {b : Board} (r : Refusal) → first_of (open_checks items p q counts) ≡ Refused r → b ≡ opened 0 0 [] →
-      record { board = b; answer = Opened.Refused r } ≡ open_of items p q counts
+  pub open-refused : {b : Board} (r : Refusal) → first_of (open_checks items p q counts) ≡ Err r → b ≡ opened 0 0 [] →
+      record { board = b; answer = Err r } ≡ open_of items p q counts
   unfolding open_of open_by
   open-refused r e h = rw (e, h)
 
@@ -265,5 +231,5 @@ opened-on-sound {items} {p} {q} {counts} h =
       };
     }
 
-pub opened-sound : (items p q : ℕ) (counts : List ℕ) → first_of (open_checks items p q counts) ≡ Served → Sound (opened p q counts)
+pub opened-sound : (items p q : ℕ) (counts : List ℕ) → first_of (open_checks items p q counts) ≡ Ok tt → Sound (opened p q counts)
 opened-sound items p q counts e = opened-on-sound (opened-counts items p q counts e)

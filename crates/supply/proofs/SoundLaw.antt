@@ -1,5 +1,5 @@
 -- The soundness test decides soundness.
-use mathlib.Core.Path.{◌≡◌, refl, sym}
+use mathlib.Core.Path.{◌≡◌, refl}
 use mathlib.Core.Bool.{Bool, true, false, ◌&&◌}
 use mathlib.Core.List.{List}
 use Prim.Native.Nat.{ℕ, ◌<◌}
@@ -9,12 +9,11 @@ use lib.ListN.{length, get_or}
 use lib.Dec.{eqb, ltb}
 use borrow.Author.Tests.{lt-ltb, le-ltb, ltb-true, ltb-false, eq-eqb, ne_eqb}
 use Rattle.duality.specs.Decide.{Decides, all_below}
-use Rattle.duality.proofs.Decide.{eq-decides, true-decides, and-decides, all-decides, same_test, true-is, reword, clash}
+use Rattle.duality.proofs.Decide.{eq-decides, true-decides, and-decides, all-decides, true-is, reword, clash}
 use Rattle.places.proofs.PlaceLaws.{place-below, every-place-has-its-item}
 use Rattle.board.specs.Limits.{max_items}
-use Rattle.board.specs.Ranges.{Within, within_test}
+use Rattle.board.specs.Ranges.{Within}
 use Rattle.board.specs.Cells.{row_in}
-use Rattle.board.specs.SoundTest as tested
 use Rattle.board.proofs.Tests.{within-decides}
 use Rattle.board.proofs.SoundLaw as placed
 use Rattle.supply.specs.declared.record.Board.{Board}
@@ -63,14 +62,6 @@ laid-decides items places =
       all = h.1.1.1;
     })
     (λ h. (h.formed, (h.count, (laid-counts items places h, h.all))))
-
--- After the other parts of the test: whether the places are as many
-pub laid-rest : (items : Items) (places n : ℕ) → length items.places ≡ max_items → within_test max_items items.count ≡ true → counts_test items ≡ true →
-    n ≡ all_places items → eqb n places ≡ laid_test items places
-unfolding laid_test
-laid-rest items places n formed count each e =
-    rw (eq-eqb (length items.places) max_items formed, count, each, e)
-    (same_test _ _ (eq-decides (all_places items) places) (reword (eq-decides places (all_places items)) sym sym))
 
 -- The first place of a place's item, read from the lists that code makes
 pub first_read : (items : Items) (places : ℕ) (starts owner : List ℕ) → Laid items places → Starts items starts → Belongs items owner → (s : ℕ) → s < places →
@@ -130,18 +121,3 @@ sound-decides b =
     (and-decides (placed.sound-decides (auction_of b)) (all-decides b.market.items (alike_test b) (Alike b) (alike-decides b))))
     (λ h. record { laid = h.0; auction = h.1.0; alike = h.1.1 })
     (λ h. (h.laid, (h.auction, h.alike)))
-
--- The test, part by part
-module _ (b : Board) where
-  pub sound-unlaid : laid_test b.items b.market.items ≡ false → false ≡ sound_test b
-  unfolding sound_test
-  sound-unlaid e = rw e
-
-  pub sound-unsound : laid_test b.items b.market.items ≡ true → tested.sound_test (auction_of b) ≡ false → false ≡ sound_test b
-  unfolding sound_test
-  sound-unsound e f = rw (e, f)
-
-  pub sound-rest : laid_test b.items b.market.items ≡ true → tested.sound_test (auction_of b) ≡ true →
-      all_below b.market.items (alike_test b) ≡ sound_test b
-  unfolding sound_test
-  sound-rest e f = rw (e, f)

@@ -1,13 +1,12 @@
 -- Open (document 02, R-6): "The opening call is lent the counts, a cell per kettle." "1, 2", then "9 for counts of another length, then 16".
-use Rattle.std.specs.Prelude.{◌≡◌, not, List, [], ◌∷◌, ◌++◌, ℕ, suc, ◌≤◌, ◌<◌, length, replicate, eqb, ltb}
+use Rattle.std.specs.Prelude.{◌≡◌, not, List, [], ◌∷◌, ◌++◌, ℕ, suc, ◌≤◌, ◌<◌, length, replicate, eqb, ltb, Result, Err, Ok}
 use Rattle.duality.specs.Sums.{sum_to}
 use Rattle.duality.specs.Lists.{cells}
 use Rattle.refusals.specs.declared.Refusal.{Refusal}
 use Rattle.refusals.specs.declared.Refusal.TheVariants.{Count, Slack, Uneven, Places}
-use Rattle.refusals.specs.declared.Verdict.{Verdict}
 use Rattle.refusals.specs.declared.Told.{Told}
 use Rattle.refusals.specs.Told.{served, refused}
-use Rattle.refusals.specs.Demand1.{Check, check_for, first_of}
+use Rattle.refusals.specs.Demand1.{Check, check_for, first_of, Verdict}
 use Rattle.refusals.specs.Each.{cell_checks}
 use Rattle.board.specs.Limits.{max_items}
 use Rattle.board.specs.Ranges.{SlackIn, within_test, Within, slack_test}
@@ -15,8 +14,6 @@ use Rattle.board.specs.Lent.{written}
 use Rattle.board.specs.Opening as place
 use Rattle.supply.specs.declared.record.Board.{Board}
 use Rattle.supply.specs.declared.record.Items.{Items}
-use Rattle.supply.specs.declared.opening.Opened.{Opened}
-use Rattle.supply.specs.declared.opening.Opening.{Opening}
 use Rattle.supply.specs.Board.{max_places, on_items}
 
 -- Counts that a record can hold: one for each of 64 items at most, each within the limit
@@ -55,18 +52,28 @@ open_checks items p q counts =
     (check_for Uneven (not (eqb (length counts) items)) ∷
     (count_checks counts ++ (check_for (Places 0) (ltb max_items (sum_to (length counts) (cells counts))) ∷ []))))
 
+-- What opening answers, and the board
+pub record Opening : Type 0 where
+  pub board : Board
+  pub answer : Verdict
+
 unfoldable pub open_by : ℕ → ℕ → List ℕ → Verdict → Opening
-open_by p q counts Verdict.Served = record { board = opened p q counts; answer = Opened.Ready }
-open_by p q counts (Verdict.Refused r) = record { board = opened 0 0 []; answer = Opened.Refused r }
+open_by p q counts (Ok tt) = record { board = opened p q counts; answer = Ok tt }
+open_by p q counts (Err r) = record { board = opened 0 0 []; answer = Err r }
 
 -- A refused opening has no board to keep; what comes beside the refusal is all 0
 unfoldable pub open_of : ℕ → ℕ → ℕ → List ℕ → Opening
 open_of items p q counts = open_by p q counts (first_of (open_checks items p q counts))
 
+-- An opened board, or a refusal beside a board that is all 0
+abbrev pub answered : Result Board Refusal → Opening
+answered (Ok b) = record { board = b; answer = Ok tt }
+answered (Err r) = record { board = opened 0 0 []; answer = Err r }
+
 -- What is told: nothing but that it served, or the refusal
-abbrev pub opened_told : Opened → Told
-opened_told Opened.Ready = served 0
-opened_told (Opened.Refused r) = refused r
+abbrev pub opened_told : Verdict → Told
+opened_told (Ok tt) = served 0
+opened_told (Err r) = refused r
 
 -- Opening gives the board c, and tells t
 pub record OpenAnswers (items p q : ℕ) (counts : List ℕ) (c : Board) (t : Told) : Type 0 where

@@ -14,14 +14,8 @@ use crate::shape::{count_in, owners_of};
 use board::lent::Columns;
 use board::record::Auction;
 
-// The number of an item, by its cell.
-fn number_of(cell: u32) -> u64
-    ensures { result ≡ suc cell }
-{
-    cell as u64 + 1
-}
-
 // A place's number, as its item's number; 0 for none.
+// Like page's `weight_held` and matching's `cell_weight` it is `at_cell`, each of a lookup of its own: the test for 0 is all they share.
 fn item_number(owner: &[u32; Auction::MAX_ITEMS], cell: u64) -> u64
     requires { cell ≤ max_items }
     ensures { result ≡ at_cell (λ s. suc (get_or owner.now s 0)) cell }
@@ -30,7 +24,7 @@ fn item_number(owner: &[u32; Auction::MAX_ITEMS], cell: u64) -> u64
         return 0;
     }
     let s = (cell - 1) as usize;
-    number_of(owner[s])
+    u64::from(owner[s]) + 1
 }
 
 // The matching by item.
@@ -39,40 +33,28 @@ fn plan_by_item<'a>(
     plan: &'a [u64; Auction::MAX_BIDDERS],
     bidders: usize,
 ) -> [u64; Auction::MAX_BIDDERS]
-    requires { (bidders ≤ max_bidders) × ((i : ℕ) → i < bidders → cells plan.now i ≤ max_items) }
+    requires bidders { bidders ≤ max_bidders }
+    requires plan { (i : ℕ) → i < bidders → cells plan.now i ≤ max_items }
     ensures { (i : ℕ) → i < bidders → cells result i ≡ at_cell (λ s. suc (get_or owner.now s 0)) (cells plan.now i) }
 {
     let mut named = [0u64; Auction::MAX_BIDDERS];
-    let mut i: usize = 0;
-    while i < bidders {
+    for i in 0..bidders {
         named[i] = item_number(owner, plan[i]);
-        i += 1;
     }
     named
 }
 
 // The least of the prices of so many places, from one on.
 fn least_price(prices: &[u64; Auction::MAX_BIDDERS], from: usize, places: usize) -> u64
-    requires { (from ≤ max_items) × (from + places ≤ max_bidders) }
+    requires from { from ≤ max_items }
+    requires places { from + places ≤ max_bidders }
     ensures { result ≡ least_of (cells prices.now from) places (λ j. cells prices.now (from + j)) }
 {
     let mut least = prices[from];
-    let mut j: usize = 0;
-    while j < places {
-        least = lesser(least, prices[from + j]);
-        j += 1;
+    for &price in &prices[from..from + places] {
+        least = least.min(price);
     }
     least
-}
-
-// The lesser of two prices.
-fn lesser(a: u64, b: u64) -> u64
-    ensures { result ≡ min a b }
-{
-    if b < a {
-        return b;
-    }
-    a
 }
 
 // The least price of each item.
@@ -83,28 +65,25 @@ fn prices_by_item(prices: &[u64; Auction::MAX_BIDDERS], items: Items) -> [u64; A
     let count = items.count as usize;
     let mut least = [0u64; Auction::MAX_BIDDERS];
     let mut next: usize = 0;
-    let mut k: usize = 0;
-    while k < count {
+    for k in 0..count {
         let places = count_in(items.places[k]);
         least[k] = least_price(prices, next, places);
         next += places;
-        k += 1;
     }
     least
 }
 
 // All three by item, of so many bidders.
 pub fn read_by_item(columns: Columns, items: Items, bidders: usize) -> Columns
-    requires { Fits items × (bidders ≤ max_bidders) × ((i : ℕ) → i < bidders → cells columns.plan i ≤ all_places items) }
+    requires fits { Fits items }
+    requires bidders { bidders ≤ max_bidders }
+    requires plan { (i : ℕ) → i < bidders → cells columns.plan i ≤ all_places items }
     ensures { ReadByItem items bidders columns result }
 {
     let owner = owners_of(items);
-    let plan = plan_by_item(&owner, &columns.plan, bidders);
-    let prices = prices_by_item(&columns.prices, items);
-    let gains = columns.gains;
     Columns {
-        plan,
-        prices,
-        gains,
+        plan: plan_by_item(&owner, &columns.plan, bidders),
+        prices: prices_by_item(&columns.prices, items),
+        gains: columns.gains,
     }
 }

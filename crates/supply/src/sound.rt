@@ -1,23 +1,23 @@
 // The test that a board is sound: its items and their places, the auction over places, and that the places of an item are alike.
-ghost use Rattle.std.specs.Prelude.{◌≡◌, ◌&&◌, ℕ, ◌*◌, ◌≤◌, ◌<◌, length, get_or, eqb};
+ghost use Rattle.std.specs.Prelude.{◌≡◌, ◌↔◌, IsTrue, ◌&&◌, ℕ, ◌*◌, ◌≤◌, ◌<◌, length, get_or, eqb};
 ghost use Rattle.duality.specs.Decide.{all_below};
 ghost use Rattle.board.specs.Limits.{max_items, max_bidders};
 ghost use Rattle.board.specs.Cells.{row_in};
-ghost use Rattle.supply.specs.Board.{board};
-ghost use Rattle.supply.specs.Sound.{Laid};
+ghost use Rattle.supply.specs.Sound.{Laid, Sound};
 ghost use Rattle.supply.specs.SoundTest.{count_test, counts_test, laid_test, column_test, alike_test, sound_test};
 
 use crate::record::{Board, Items};
 use crate::shape::{owners_of, places_to, starts_of};
 use board::ranges::is_within;
-use board::record::{Auction, Market, State};
+use board::record::Auction;
 
 // The places of an item: 1 to 8, and 0 past the count.
+#[tactic(auto, unfolding(crate::specs::SoundTest::count_test))]
 fn count_holds(used: bool, places: u8) -> bool
     ensures { result ≡ count_test used places }
 {
     if used {
-        return is_within(Board::MAX_PLACES, places as u64);
+        return is_within(Board::MAX_PLACES, u64::from(places));
     }
     places == 0
 }
@@ -27,17 +27,15 @@ fn counts_hold(items: Items) -> bool
     ensures { result ≡ counts_test items }
 {
     let count = items.count as usize;
-    let mut k: usize = 0;
-    while k < Auction::MAX_ITEMS {
-        if !count_holds(k < count, items.places[k]) {
-            return false;
-        }
-        k += 1;
-    }
-    true
+    items
+        .places
+        .iter()
+        .enumerate()
+        .all(|(k, places)| count_holds(k < count, *places))
 }
 
 // The items and their places, of so many places in all.
+#[tactic(auto, unfolding(crate::specs::SoundTest::laid_test))]
 fn is_laid(items: Items, places: u64) -> bool
     ensures { result ≡ laid_test items places }
 {
@@ -52,15 +50,15 @@ fn is_laid(items: Items, places: u64) -> bool
 
 // Whether two places have the same edges.
 fn column_alike(weights: &[u32; Auction::MAX_CELLS], s: usize, t: usize, arrived: usize) -> bool
-    requires { (s < max_items) × (t < max_items) × (arrived ≤ max_bidders) }
+    requires s { s < max_items }
+    requires t { t < max_items }
+    requires arrived { arrived ≤ max_bidders }
     ensures { result ≡ all_below arrived (λ i. eqb (get_or (row_in weights.now i) s 0) (get_or (row_in weights.now i) t 0)) }
 {
-    let mut i: usize = 0;
-    while i < arrived {
+    for i in 0..arrived {
         if weights[i * Auction::MAX_ITEMS + s] != weights[i * Auction::MAX_ITEMS + t] {
             return false;
         }
-        i += 1;
     }
     true
 }
@@ -73,7 +71,9 @@ fn place_alike<'a>(
     t: usize,
     arrived: usize,
 ) -> bool
-    requires { (s < max_items) × (t < max_items) × (arrived ≤ max_bidders) }
+    requires s { s < max_items }
+    requires t { t < max_items }
+    requires arrived { arrived ≤ max_bidders }
     ensures { result ≡ (eqb (get_or withdrawn.now s 0) (get_or withdrawn.now t 0) &&
         all_below arrived (λ i. eqb (get_or (row_in weights.now i) s 0) (get_or (row_in weights.now i) t 0))) }
 {
@@ -87,55 +87,44 @@ fn place_alike<'a>(
 }
 
 // Every place is as the first place of its item.
-fn places_alike(
-    items: Items,
-    market: Market,
-    weights: &[u32; Auction::MAX_CELLS],
-    state: State,
-) -> bool
-    requires { Laid items market.items × (market.items ≤ max_items) × (market.arrived ≤ max_bidders) }
-    ensures { result ≡ all_below market.items (alike_test (board items market weights.now state)) }
+fn places_alike(board: &Board) -> bool
+    requires laid { Laid board.now.items board.now.market.items }
+    requires items { board.now.market.items ≤ max_items }
+    requires arrived { board.now.market.arrived ≤ max_bidders }
+    ensures { result ≡ all_below board.now.market.items (alike_test board.now) }
 {
-    let starts = starts_of(items);
-    let owner = owners_of(items);
-    let places = market.items as usize;
-    let arrived = market.arrived as usize;
-    let mut s: usize = 0;
-    while s < places {
-        let k = owner[s] as usize;
-        if !place_alike(weights, &market.withdrawn, s, starts[k], arrived) {
+    let starts = starts_of(board.items);
+    let owner = owners_of(board.items);
+    let arrived = board.market.arrived as usize;
+    for s in 0..board.market.items as usize {
+        let first = starts[owner[s] as usize];
+        if !place_alike(&board.weights, &board.market.withdrawn, s, first, arrived) {
             return false;
         }
-        s += 1;
     }
     true
 }
 
-// Whether a board of these parts is sound, whatever numbers they hold.
-pub fn is_sound_in(
-    items: Items,
-    market: Market,
-    weights: &[u32; Auction::MAX_CELLS],
-    state: State,
-) -> bool
-    requires { length weights.now ≡ max_bidders * max_items }
-    ensures { result ≡ sound_test (board items market weights.now state) }
+// The test of a board, part by part.
+#[tactic(auto, unfolding(crate::specs::SoundTest::sound_test))]
+fn passes(board: &Board) -> bool
+    ensures { result ≡ sound_test board.now }
 {
-    if !is_laid(items, market.items) {
+    if !is_laid(board.items, board.market.items) {
         return false;
     }
-    if !board::sound::is_sound_in(market, weights, state) {
+    if !board::sound::is_sound_in(board.market, &board.weights, board.state) {
         return false;
     }
-    places_alike(items, market, weights, state)
+    places_alike(board)
 }
 
-// Whether a board is sound.
-pub fn is_sound(board: Board) -> bool
-    ensures { result ≡ sound_test board }
-{
-    let items = board.items;
-    let market = board.market;
-    let state = board.state;
-    is_sound_in(items, market, &board.weights, state)
+impl Board {
+    /// Whether a board is sound, whatever numbers it holds.
+    pub fn is_sound(&self) -> bool
+        ensures test { result ≡ sound_test self.now }
+        ensures sound { IsTrue result ↔ Sound self.now }
+    {
+        passes(self)
+    }
 }

@@ -7,18 +7,18 @@ use native.Mathlib.Omega.{arith}
 use mathlib.Core.Bool.{Bool, true, false}
 use mathlib.Core.List.{List, []}
 use lib.ListN.{length, get_or, set, replicate, length-set}
-use lib.Seq.{sets}
+use lib.Seq.{sets, set_out}
 use lib.Dec.{eqb}
 use borrow.Author.Tests.{eqb-true, eqb-false}
+use Rattle.std.proofs.Common.{Option, Some, None}
 use Rattle.text.specs.Bytes.{tab, newline}
 use Rattle.text.specs.Limits.{kept}
-use Rattle.text.specs.Number.{field_at}
+use Rattle.text.specs.Number.{number, field_at}
 use Rattle.text.specs.Line.{Fields, all, bad, prepend, follow, fields_from, fields_at, bad_line, line_with}
-use Rattle.text.specs.Reader.{tabbed_at, closed_at}
+use Rattle.text.specs.Reader.{tabbed_at, number_in, after_of}
 use Rattle.text.specs.declared.scan.Field.{Field}
-use Rattle.text.specs.declared.scan.Field.TheVariants.{Number, Bad}
 use Rattle.text.specs.declared.line.Line.{Line}
-use Rattle.text.proofs.Lines.{at-newline, at-tab, at_other, tab-here, no-tab, closed-here, not-closed}
+use Rattle.text.proofs.Lines.{at-newline, at-tab, tab-here, no-tab}
 use Rattle.text.proofs.Numbers.{inside, grows}
 
 -- a letter and `count` fields that were read, with those that follow
@@ -52,18 +52,26 @@ gathered_none s at letter =
     }
 
 -- a number at a position stands after a tab there
-after-tab : (s : List ℕ) (i v n : ℕ) → tabbed_at s i ≡ Number v n → (get_or s i 0 ≡ tab) × (field_at s (i + 1) ≡ Number v n)
+after-tab : (s : List ℕ) (i v n : ℕ) → tabbed_at s i ≡ number v n → (get_or s i 0 ≡ tab) × (field_at s (i + 1) ≡ number v n)
 after-tab s i v n e = go (eqb (get_or s i 0) tab) refl
   where
-    go : (t : Bool) → eqb (get_or s i 0) tab ≡ t → (get_or s i 0 ≡ tab) × (field_at s (i + 1) ≡ Number v n)
+    go : (t : Bool) → eqb (get_or s i 0) tab ≡ t → (get_or s i 0 ≡ tab) × (field_at s (i + 1) ≡ number v n)
     go true q = let h = eqb-true (get_or s i 0) tab q in (h, sym (tab-here s i h) ∙ e)
     go false q =
-        let f : Bad ≡ Number v n = sym (no-tab s i (eqb-false (get_or s i 0) tab q)) ∙ e in
-        let z : ◌≡◌ {A = ℕ} 0 1 = cc in
-        absurd (omega arith)
+        let f : None ≡ number v n = sym (no-tab s i (eqb-false (get_or s i 0) tab q)) ∙ e in
+        absurd cc
+
+-- what a reader answers, and where it stands then, say which field stood at its position
+pub field_read : (o : Option Field) (i v n : ℕ) → Some v ≡ number_in o → n ≡ after_of o i → o ≡ number v n
+field_read (Some f) i v n e h = let a : v ≡ f.number = cc in rw (a, h)
+field_read None i v n e h = absurd cc
+
+pub field_none : (o : Option Field) (i n : ℕ) → None ≡ number_in o → n ≡ after_of o i → (o ≡ None) × (n ≡ i)
+field_none (Some f) i n e h = absurd cc
+field_none None i n e h = (refl, h)
 
 -- a field moves the reader on, in the text
-pub falls : (s : List ℕ) (i v n : ℕ) → tabbed_at s i ≡ Number v n → (i < length s) × (i < n)
+pub falls : (s : List ℕ) (i v n : ℕ) → tabbed_at s i ≡ number v n → (i < length s) × (i < n)
 falls s i v n e =
     let w = after-tab s i v n e in
     (inside s i (omega (arith, w.0)), omega (arith, grows s (i + 1) v n w.1))
@@ -75,7 +83,7 @@ module _ {s : List ℕ} {at letter : ℕ} {numbers : List ℕ} {count i : ℕ} (
       let z : length s - count ≡ suc (length s - (count + 1)) = omega (arith, w.few) in
       sym (ap (λ (k : ℕ). gather letter count numbers (fields_from k s i)) z ∙ ap (gather letter count numbers) e) ∙ w.rest
 
-  follows : (f : Field) → get_or s i 0 ≡ tab → field_at s (i + 1) ≡ f
+  follows : (f : Option Field) → get_or s i 0 ≡ tab → field_at s (i + 1) ≡ f
       → gather letter count numbers (follow f (λ n. fields_from (length s - (count + 1)) s n)) ≡ line_with letter (fields_at s at)
   follows f e g =
       rw (← g)
@@ -85,29 +93,21 @@ module _ {s : List ℕ} {at letter : ℕ} {numbers : List ℕ} {count i : ℕ} (
       (at-tab (length s - (count + 1)) s i e))
 
   -- one field more
-  pub gathered-more : (v n : ℕ) → tabbed_at s i ≡ Number v n → Gathered s at letter (set numbers count v) (count + 1) n
+  pub gathered-more : (v n : ℕ) → tabbed_at s i ≡ number v n → Gathered s at letter (set numbers count v) (count + 1) n
   gathered-more v n e =
       let g = after-tab s i v n e in
       record {
         room = length-set numbers count v ∙ w.room;
         few = omega (arith, w.few, grows s (i + 1) v n g.1);
-        rest = gather-more letter count numbers v (fields_from (length s - (count + 1)) s n) ∙ follows (Number v n) g.0 g.1;
+        rest = gather-more letter count numbers v (fields_from (length s - (count + 1)) s n) ∙ follows (number v n) g.0 g.1;
       }
 
-  -- no field more: the line is closed here, or bad
-  pub gathered-all : tabbed_at s i ≡ Bad → closed_at s i letter count numbers ≡ line_with letter (fields_at s at)
-  gathered-all e = newlines (eqb (get_or s i 0) newline) refl
-    where
-      tabs : (t : Bool) → eqb (get_or s i 0) tab ≡ t → (get_or s i 0 ≡ newline → ⊥) → bad_line ≡ line_with letter (fields_at s at)
-      tabs true q h = let c = eqb-true (get_or s i 0) tab q in follows Bad c (sym (tab-here s i c) ∙ e)
-      tabs false q h = sym (ap (gather letter count numbers) (at_other (length s - count) s i h (eqb-false (get_or s i 0) tab q))) ∙ w.rest
+  -- one field more than are kept
+  pub gathered-past : (v n : ℕ) → tabbed_at s i ≡ number v n → kept ≤ count → Gathered s at letter numbers (count + 1) n
+  gathered-past v n e h = rw (set_out numbers count v (omega (arith, w.room))) at (gathered-more v n e)
 
-      newlines : (t : Bool) → eqb (get_or s i 0) newline ≡ t → closed_at s i letter count numbers ≡ line_with letter (fields_at s at)
-      newlines true q =
-          let c = eqb-true (get_or s i 0) newline q in
-          closed-here s i letter count numbers c
-          ∙ (ap (λ (k : ℕ). record { letter = letter; next = i + 1; count = k; numbers = numbers }) (sym (add-zero count))
-          ∙ turn (all [] (i + 1)) (inside s i (omega arith)) (at-newline (length s - (count + 1)) s i c))
-      newlines false q =
-          let h = eqb-false (get_or s i 0) newline q in
-          not-closed s i letter count numbers h ∙ tabs (eqb (get_or s i 0) tab) refl h
+  -- no field more: the line is closed here
+  pub gathered-closed : get_or s i 0 ≡ newline → record { letter = letter; next = i + 1; count = count; numbers = numbers } ≡ line_with letter (fields_at s at)
+  gathered-closed e =
+      ap (λ (k : ℕ). record { letter = letter; next = i + 1; count = k; numbers = numbers }) (sym (add-zero count))
+      ∙ turn (all [] (i + 1)) (inside s i (omega arith)) (at-newline (length s - (count + 1)) s i e)

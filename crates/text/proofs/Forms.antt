@@ -16,8 +16,8 @@ use Rattle.text.specs.Number.{digits, digits_at, value_of, is_number, number_of,
 use Rattle.text.specs.Line.{Fields, all, bad, prepend, follow, fields_from, fields_at, line_with, line_at}
 use Rattle.text.specs.Print.{decimal}
 use Rattle.text.specs.Form.{FieldsAt, closed, field, NumberSound, NumberComplete, LineOrBad, LineSound, LineComplete, LineOnce, LineAhead}
+use Rattle.std.proofs.Common.{Option, Some, None}
 use Rattle.text.specs.declared.scan.Field.{Field}
-use Rattle.text.specs.declared.scan.Field.TheVariants.{Number, Bad}
 use Rattle.text.proofs.Decimals.{small, some-digit, first-digit, digits_decimal, value-decimal, printed-first, empty}
 use Rattle.text.proofs.Lines.{at-newline, at-tab, at_other}
 use Rattle.text.proofs.Numbers.{inside, both, picked, none-front, some-front, byte-front, none}
@@ -92,27 +92,26 @@ ahead (field {v = v} t w r) = let a = ahead r in (omega (arith, w.after, some-di
 -- a number before further fields
 prepended : (v : ℕ) (f : Fields) (ns : List ℕ) (next : ℕ) → prepend v f ≡ all ns next → (ms : List ℕ) × (f ≡ all ms next) × (v ∷ ms ≡ ns)
 prepended v (all ms m) ns next e = (ms, cc, cc)
-prepended v bad ns next e = let z : ◌≡◌ {A = ℕ} 0 1 = cc in absurd (omega arith)
+prepended v bad ns next e = absurd cc
 
 abbrev Sound : ℕ → List ℕ → Type 0
 Sound k s = (i : ℕ) (ns : List ℕ) (next : ℕ) → fields_from k s i ≡ all ns next → FieldsAt s i ns next
 
 fields-sound : (k : ℕ) (s : List ℕ) → Sound k s
-fields-sound zero s i ns next e = let z : ◌≡◌ {A = ℕ} 0 1 = cc in absurd (omega arith)
+fields-sound zero s i ns next e = absurd cc
 fields-sound (suc k) s i ns next e = newlines (eqb (get_or s i 0) newline) refl (fields-sound k s)
   where
-    numbers : (f : Field) → field_at s (i + 1) ≡ f → get_or s i 0 ≡ tab → follow f (λ n. fields_from k s n) ≡ all ns next → Sound k s → FieldsAt s i ns next
-    numbers (Number v n) q t g rec =
-        let p = prepended v (fields_from k s n) ns next g in
-        rw (← p.2) (field t (number-sound s (i + 1) v n q) (rec n p.0 next p.1))
-    numbers Bad q t g rec = let z : ◌≡◌ {A = ℕ} 0 1 = cc in absurd (omega arith)
+    numbers : (f : Option Field) → field_at s (i + 1) ≡ f → get_or s i 0 ≡ tab → follow f (λ n. fields_from k s n) ≡ all ns next → Sound k s → FieldsAt s i ns next
+    numbers (Some f) q t g rec =
+        let p = prepended f.number (fields_from k s f.next) ns next g in
+        rw (← p.2) (field t (number-sound s (i + 1) f.number f.next q) (rec f.next p.0 next p.1))
+    numbers None q t g rec = absurd cc
 
     tabs : (t : Bool) → eqb (get_or s i 0) tab ≡ t → (get_or s i 0 ≡ newline → ⊥) → Sound k s → FieldsAt s i ns next
     tabs true q h rec = let t = eqb-true (get_or s i 0) tab q in numbers (field_at s (i + 1)) refl t (sym (at-tab k s i t) ∙ e) rec
     tabs false q h rec =
         let f = sym (at_other (suc k) s i h (eqb-false (get_or s i 0) tab q)) ∙ e in
-        let z : ◌≡◌ {A = ℕ} 0 1 = cc in
-        absurd (omega arith)
+        absurd cc
 
     newlines : (t : Bool) → eqb (get_or s i 0) newline ≡ t → Sound k s → FieldsAt s i ns next
     newlines true q rec =
@@ -128,7 +127,7 @@ fields-complete w zero h = absurd (not-suc-le-zero h)
 fields-complete {s} (closed {i = i} e) (suc k) h = at-newline k s i e
 fields-complete {s} (field {i = i} {v = v} {n = n} t w r) (suc k) h =
     at-tab k s i t
-    ∙ (ap (λ (f : Field). follow f (λ m. fields_from k s m)) (number-complete s (i + 1) v n w)
+    ∙ (ap (λ (f : Option Field). follow f (λ m. fields_from k s m)) (number-complete s (i + 1) v n w)
     ∙ ap (prepend v) (fields-complete r k (omega arith)))
 
 pub line-ahead : LineAhead

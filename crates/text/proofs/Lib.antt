@@ -4,4 +4,5 @@ pub mod Fields
 pub mod Forms
 pub mod Lines
 pub mod Numbers
+pub mod Outs
 pub mod Puts

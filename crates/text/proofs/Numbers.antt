@@ -1,18 +1,21 @@
 -- Laws of digits and numbers. Assumes nothing.
-use mathlib.Core.Path.{◌≡◌, refl, ◌∙◌, ap}
-use Prim.Native.Nat.{ℕ, suc, ◌+◌, ◌<◌, ◌≤◌}
+use mathlib.Core.Path.{◌≡◌, refl, sym, ◌∙◌, ap}
+use Prim.Native.Nat.{ℕ, suc, ◌+◌, ◌-◌, ◌<◌, ◌≤◌}
 use native.Mathlib.Nat.{add-zero}
 use native.Mathlib.Omega.{arith}
-use mathlib.Core.Bool.{Bool, true, false, cond, ◌&&◌, false≢true, and-false}
+use mathlib.Core.Bool.{Bool, true, false, ◌&&◌, false≢true, and-false}
 use mathlib.Core.List.{List, [], ◌∷◌}
-use lib.ListN.{length, get_or, drop, get_or-eq_default}
-use lib.Seq.{get_or-drop, drop-drop}
+use lib.ListN.{length, get_or, drop, get_or-eq_default, drop_of_length-le, length-drop}
+use lib.Seq.{get_or-drop, take_all}
 use lib.Dec.{leb, ltb}
-use borrow.Author.Tests.{leb-true, ltb-true, ltb-false, lt-leb}
+use borrow.Author.Tests.{leb-true, ltb-true, ltb-false, lt-leb, le-leb}
 use Rattle.text.specs.Limits.{max_digits}
-use Rattle.text.specs.declared.scan.Field.TheVariants.{Number, Bad}
+use Rattle.std.proofs.Common.{None}
+use Rattle.std.specs.Bool.{then_some}
+use Rattle.std.specs.List.{slice_range}
+use Rattle.text.specs.declared.scan.Field.{Field}
 use Rattle.text.specs.Bytes.{within, is_digit}
-use Rattle.text.specs.Number.{digits, digits_at, value_of, is_number, number_of, field_at}
+use Rattle.text.specs.Number.{digits, digits_at, value_of, is_number, field, number, number_of, field_at}
 
 -- a byte that is not 0 stands in the text
 pub inside : (s : List ℕ) (i : ℕ) → 0 < get_or s i 0 → i < length s
@@ -47,41 +50,59 @@ byte-front s i = get_or-drop i s 0 0 ∙ ap (λ (k : ℕ). get_or s k 0) (add-ze
 pub none : (s : List ℕ) (i : ℕ) → is_digit (get_or s i 0) ≡ false → digits_at s i ≡ []
 none s i e = none-front (drop i s) (ap is_digit (byte-front s i) ∙ e)
 
-pub some : (s : List ℕ) (i : ℕ) → is_digit (get_or s i 0) ≡ true → digits_at s i ≡ get_or s i 0 ∷ digits_at s (i + 1)
-some s i e =
-    some-front (drop i s) (ap is_digit (byte-front s i) ∙ e)
-    ∙ (ap (λ (b : ℕ). b ∷ digits (drop 1 (drop i s))) (byte-front s i)
-    ∙ ap (λ (l : List ℕ). get_or s i 0 ∷ digits l) (drop-drop 1 i s))
+-- what the first byte says of the digits
+pub digits-none : (l : List ℕ) → (48 ≤ get_or l 0 0 → get_or l 0 0 ≤ 57 → ⊥) → digits l ≡ []
+digits-none l h = go (is_digit (get_or l 0 0)) refl
+  where
+    go : (t : Bool) → is_digit (get_or l 0 0) ≡ t → digits l ≡ []
+    go true e = let r = in-range 48 57 (get_or l 0 0) e in absurd (h r.0 r.1)
+    go false e = none-front l e
 
--- the first digit is the byte at the position
-first-at : (s : List ℕ) (i : ℕ) (t : Bool) → is_digit (get_or s i 0) ≡ t
-    → is_number (get_or (digits_at s i) 0 0) (length (digits_at s i)) ≡ is_number (get_or s i 0) (length (digits_at s i))
-first-at s i true e = ap (λ (l : List ℕ). is_number (get_or l 0 0) (length (digits_at s i))) (some s i e)
-first-at s i false e = rw (none s i e)
+pub digits-some : (l : List ℕ) → 48 ≤ get_or l 0 0 → get_or l 0 0 ≤ 57 → 0 < length (digits l)
+digits-some l a b = let e : is_digit (get_or l 0 0) ≡ true = rw (le-leb 48 (get_or l 0 0) a, le-leb (get_or l 0 0) 57 b) in rw (some-front l e) (omega arith)
 
--- the number at a position, from the count and the value of its digits
-pub number_is : (s : List ℕ) (at n v : ℕ) → length (digits_at s at) ≡ n → value_of 0 (digits_at s at) ≡ v
-    → field_at s at ≡ cond (is_number (get_or s at 0) n) (Number v (at + n)) Bad
+pub digits-short : (l : List ℕ) → length l < 1 → digits l ≡ []
+digits-short [] h = refl
+digits-short (b ∷ bs) h = absurd (omega arith)
+
+-- the rest of a text from a position on
+pub range-drop : (s : List ℕ) (at : ℕ) → slice_range s at (length s) ≡ drop at s
+range-drop s at = take_all (length s - at) (drop at s) (omega (arith, length-drop at s))
+
+-- no number where the digits are none, or too many
+pub past : (s : List ℕ) (at : ℕ) → length s < at → None ≡ field_at s at
 unfolding field_at
-number_is s at n v el ev =
-    ap (λ (t : Bool). cond t (Number (value_of 0 (digits_at s at)) (at + length (digits_at s at))) Bad) (first-at s at (is_digit (get_or s at 0)) refl)
-    ∙ (ap (λ (k : ℕ). cond (is_number (get_or s at 0) k) (Number (value_of 0 (digits_at s at)) (at + k)) Bad) el
-    ∙ ap (λ (w : ℕ). cond (is_number (get_or s at 0) n) (Number w (at + n)) Bad) ev)
+past s at h = let l : length s ≤ at = omega arith in ap (number_of at) (ap digits (sym (drop_of_length-le s l)))
 
--- more digits than a number has
-pub too_long : (s : List ℕ) (at : ℕ) → max_digits < length (digits_at s at) → field_at s at ≡ Bad
-too_long s at h = number_is s at (length (digits_at s at)) (value_of 0 (digits_at s at)) refl refl ∙ rw (lt-leb (length (digits_at s at)) max_digits h) (simp and-false)
+pub too_long : (at : ℕ) (ds : List ℕ) → max_digits < length ds → None ≡ number_of at ds
+too_long at ds h = rw (lt-leb (length ds) max_digits h) (simp and-false)
+
+-- the first digit is the first byte
+pub first_of : (l : List ℕ) → is_number (get_or l 0 0) (length (digits l)) ≡ is_number (get_or (digits l) 0 0) (length (digits l))
+first_of l = go (is_digit (get_or l 0 0)) refl
+  where
+    go : (t : Bool) → is_digit (get_or l 0 0) ≡ t → is_number (get_or l 0 0) (length (digits l)) ≡ is_number (get_or (digits l) 0 0) (length (digits l))
+    go true e = rw (some-front l e)
+    go false e = rw (none-front l e)
+
+-- the number that was read of all digits
+pub all-read : (at : ℕ) (l : List ℕ) (v n : ℕ) → v ≡ value_of 0 (digits l) → n ≡ length (digits l)
+    → then_some (is_number (get_or l 0 0) n) (field v (at + n)) ≡ number_of at (digits l)
+all-read at l v n ev en =
+    rw (ev, en) (ap (λ (t : Bool). then_some t (field (value_of 0 (digits l)) (at + length (digits l)))) (first_of l))
 
 -- a field that is a number
-pub picked : (t : Bool) (w m v n : ℕ) → cond t (Number w m) Bad ≡ Number v n → (t ≡ true) × (w ≡ v) × (m ≡ n)
-picked true w m v n e = (refl, cc, cc)
-picked false w m v n e = let z : ◌≡◌ {A = ℕ} 0 1 = cc in absurd (omega arith)
+pub picked : (t : Bool) (w m v n : ℕ) → then_some t (field w m) ≡ number v n → (t ≡ true) × (w ≡ v) × (m ≡ n)
+picked true w m v n e =
+    let f : field w m ≡ field v n = cc in
+    (refl, ap (λ (f : Field). f.number) f, ap (λ (f : Field). f.next) f)
+picked false w m v n e = absurd cc
 
-number-grows : (at n v : ℕ) (ds : List ℕ) → number_of at ds ≡ Number v n → at < n
-number-grows at n v [] e = let z : ◌≡◌ {A = ℕ} 0 1 = cc in absurd (omega arith)
+number-grows : (at n v : ℕ) (ds : List ℕ) → number_of at ds ≡ number v n → at < n
+number-grows at n v [] e = absurd cc
 number-grows at n v (d ∷ ds) e = omega (arith, picked (is_number d (suc (length ds))) (value_of 0 (d ∷ ds)) (at + suc (length ds)) v n e)
 
 -- a number ends after it starts
-pub grows : (s : List ℕ) (at v n : ℕ) → field_at s at ≡ Number v n → at < n
+pub grows : (s : List ℕ) (at v n : ℕ) → field_at s at ≡ number v n → at < n
 unfolding field_at
 grows s at v n e = number-grows at n v (digits_at s at) e

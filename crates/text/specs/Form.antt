@@ -2,10 +2,9 @@
 use Rattle.std.specs.Prelude.{◌≡◌, ◌⊎◌, ℕ, ◌+◌, ◌<◌, ◌≤◌, true, false, List, [], ◌∷◌, ◌++◌, length, get_or, drop}
 use Rattle.text.specs.Bytes.{tab, newline, is_digit, is_letter}
 use Rattle.text.specs.Limits.{max_digits}
-use Rattle.text.specs.Number.{value_of, field_at}
+use Rattle.text.specs.Number.{value_of, number, field_at}
 use Rattle.text.specs.Line.{all, line_with, bad_line, line_at}
 use Rattle.text.specs.Print.{decimal}
-use Rattle.text.specs.declared.scan.Field.TheVariants.{Number}
 
 -- the digits of a number have its value, and only 0 starts with the digit 0
 abbrev pub DecimalValue : Type 0
@@ -56,10 +55,10 @@ pub record LineForm (s : List ℕ) (at : ℕ) (ns : List ℕ) (next : ℕ) : Typ
 
 -- what `field_at` reads is a number, and every number is read
 abbrev pub NumberSound : Type 0
-NumberSound = (s : List ℕ) (at v n : ℕ) → field_at s at ≡ Number v n → NumberAt s at v n
+NumberSound = (s : List ℕ) (at v n : ℕ) → field_at s at ≡ number v n → NumberAt s at v n
 
 abbrev pub NumberComplete : Type 0
-NumberComplete = (s : List ℕ) (at v n : ℕ) → NumberAt s at v n → field_at s at ≡ Number v n
+NumberComplete = (s : List ℕ) (at v n : ℕ) → NumberAt s at v n → field_at s at ≡ number v n
 
 -- what `line_at` reads is a line or is bad as a whole, and every line is read
 abbrev pub LineOrBad : List ℕ → ℕ → Type 0

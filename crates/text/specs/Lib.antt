@@ -4,5 +4,6 @@ pub mod Form
 pub mod Limits
 pub mod Line
 pub mod Number
+pub mod Out
 pub mod Print
 pub mod Reader

@@ -1,11 +1,10 @@
 -- The line at a position of a text: a letter, and the numbers of its fields. Assumes nothing.
-use Rattle.std.specs.Prelude.{ℕ, zero, suc, ◌+◌, cond, List, [], ◌∷◌, length, get_or, replicate, eqb}
+use Rattle.std.specs.Prelude.{ℕ, Option, Some, None, zero, suc, ◌+◌, cond, List, [], ◌∷◌, length, get_or, replicate, eqb}
 use Rattle.std.proofs.lemmas.List.Edits.{sets}
 use Rattle.text.specs.Bytes.{tab, newline, is_letter}
 use Rattle.text.specs.Limits.{kept}
 use Rattle.text.specs.Number.{field_at}
 use Rattle.text.specs.declared.scan.Field.{Field}
-use Rattle.text.specs.declared.scan.Field.TheVariants.{Number, Bad}
 use Rattle.text.specs.declared.line.Line.{Line}
 
 -- the fields of a line: all their numbers, with the position of the next line; or not of the form
@@ -19,9 +18,9 @@ prepend v (all ns next) = all (v ∷ ns) next
 prepend v bad = bad
 
 -- a field and those that follow from the position after it
-abbrev pub follow : Field → (ℕ → Fields) → Fields
-follow (Number v n) rest = prepend v (rest n)
-follow Bad rest = bad
+abbrev pub follow : Option Field → (ℕ → Fields) → Fields
+follow (Some f) rest = prepend f.number (rest f.next)
+follow None rest = bad
 
 -- "fields parted by one tab, each line closed by byte 10": the fields from a position on, fewer than fuel of them
 abbrev pub fields_from : ℕ → List ℕ → ℕ → Fields

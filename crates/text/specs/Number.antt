@@ -1,9 +1,9 @@
 -- The number that starts at a position of a text. Assumes nothing.
-use Rattle.std.specs.Prelude.{ℕ, ◌+◌, ◌*◌, ◌-◌, Bool, true, false, cond, ◌&&◌, ◌||◌, not, List, [], ◌∷◌, length, get_or, drop, leb, eqb}
+use Rattle.std.specs.Prelude.{ℕ, Option, Some, ◌+◌, ◌*◌, ◌-◌, Bool, true, false, ◌&&◌, ◌||◌, not, List, [], ◌∷◌, length, get_or, drop, leb, eqb}
+use Rattle.std.specs.Bool.{then_some}
 use Rattle.text.specs.Bytes.{is_digit}
 use Rattle.text.specs.Limits.{max_digits}
 use Rattle.text.specs.declared.scan.Field.{Field}
-use Rattle.text.specs.declared.scan.Field.TheVariants.{Number, Bad}
 
 -- the digits that stand together at the front of a list
 abbrev pub digits : List ℕ → List ℕ
@@ -23,10 +23,17 @@ is_number b n = (leb 1 n && leb n max_digits) && (eqb n 1 || not (eqb b 48))
 abbrev pub digits_at : List ℕ → ℕ → List ℕ
 digits_at s at = digits (drop at s)
 
+-- a number, with the position after it
+abbrev pub field : ℕ → ℕ → Field
+field v next = record { number = v; next = next }
+
+abbrev pub number : ℕ → ℕ → Option Field
+number v next = Some (field v next)
+
 -- the number of the digits ds at a position, with the position after it
-abbrev pub number_of : ℕ → List ℕ → Field
-number_of at ds = cond (is_number (get_or ds 0 0) (length ds)) (Number (value_of 0 ds) (at + length ds)) Bad
+abbrev pub number_of : ℕ → List ℕ → Option Field
+number_of at ds = then_some (is_number (get_or ds 0 0) (length ds)) (field (value_of 0 ds) (at + length ds))
 
 -- "The reader .. moves forward field by field": the number that starts at a position
-unfoldable pub field_at : List ℕ → ℕ → Field
+unfoldable pub field_at : List ℕ → ℕ → Option Field
 field_at s at = number_of at (digits_at s at)

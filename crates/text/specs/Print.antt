@@ -1,8 +1,7 @@
 -- Numbers and lines as bytes, and what writing them to a list leaves. Assumes nothing.
-use Rattle.std.specs.Prelude.{◌≡◌, ℕ, zero, suc, ◌+◌, ◌/◌, ◌%◌, ◌≤◌, true, false, cond, List, [], ◌∷◌, ◌++◌, length, ltb}
+use Rattle.std.specs.Prelude.{◌≡◌, ℕ, zero, suc, ◌+◌, ◌/◌, ◌%◌, true, false, List, [], ◌∷◌, ◌++◌, length, ltb}
 use Rattle.std.proofs.lemmas.List.Edits.{sets}
 use Rattle.text.specs.Bytes.{tab, newline}
-use Rattle.text.specs.Limits.{max_at, max_line}
 
 -- the decimal digits of n, the most significant first, at most fuel of them
 abbrev pub decimal_from : ℕ → ℕ → List ℕ
@@ -26,12 +25,3 @@ line_of letter ns = (letter ∷ tabbed ns) ++ (newline ∷ [])
 pub record Put (before : List ℕ) (after : List ℕ) (at : ℕ) (bytes : List ℕ) (next : ℕ) : Type 0 where
   pub wrote : after ≡ sets before at bytes
   pub moved : next ≡ at + length bytes
-
--- what is written at a position: nothing past the last one
-abbrev pub writable : ℕ → List ℕ → List ℕ
-writable at bytes = cond (ltb max_at at) [] bytes
-
--- a line that was written, and its length
-pub record LinePut (before : List ℕ) (after : List ℕ) (at : ℕ) (letter : ℕ) (ns : List ℕ) (next : ℕ) : Type 0 where
-  pub put : Put before after at (writable at (line_of letter ns)) next
-  pub short : next ≤ at + max_line

@@ -1,13 +1,12 @@
-// Numbers and lines, written to a lent list as far as it goes. Each function returns the next
-// position, also past the end, so that a list of one cell serves to count.
-ghost use Rattle.std.specs.Prelude.{◌≡◌, [], ◌∷◌, ◌+◌, ◌^◌, ◌<◌, ◌≤◌, min, take};
+// Numbers and lines, written to a lent list as far as it goes. The position moves on also past the end, so that a list of one cell serves to count.
+ghost use Rattle.std.specs.Prelude.{◌≡◌, [], ◌∷◌, ◌+◌, ◌^◌, ◌<◌, ◌≤◌, length};
 ghost use Rattle.text.specs.Bytes.{tab};
-ghost use Rattle.text.specs.Limits.{wide_digits, line_fields};
-ghost use Rattle.text.specs.Print.{decimal, Put, LinePut};
+ghost use Rattle.text.specs.Limits.{wide_digits, line_fields, max_at, max_line};
+ghost use Rattle.text.specs.Print.{decimal, line_of};
 
 use crate::{NEWLINE, TAB};
 
-// The last position at which a line is written.
+// The last position at which `put_line` writes.
 pub const MAX_AT: usize = 1000000;
 
 // The most fields of a line that is written.
@@ -19,17 +18,6 @@ const WIDE_DIGITS: usize = 20;
 // The most bytes of a line that is written: a letter, a tab and a number for each field, a newline.
 pub const MAX_LINE: usize = 1 + LINE_FIELDS * (1 + WIDE_DIGITS) + 1;
 
-pub fn put_byte(out: &mut [u8], at: usize, byte: u8) -> usize
-    requires { at + 1 < 2 ^ 64 }
-    ensures { Put out.old out.new at (byte ∷ []) result }
-{
-    if at < out.len() {
-        out[at] = byte;
-        return at + 1;
-    }
-    at + 1
-}
-
 pub fn digit(d: u64) -> u8
     requires { d < 10 }
     ensures { result ≡ 48 + d }
@@ -37,56 +25,74 @@ pub fn digit(d: u64) -> u8
     b'0' + d as u8
 }
 
-// The digits of a number, the most significant first.
-fn put_number(out: &mut [u8], at: usize, n: u64) -> usize
-    requires { at < 2 ^ 63 }
-    ensures { Put out.old out.new at (decimal n) result × (result ≤ at + wide_digits) }
-{
-    if n < 10 {
-        return put_byte(out, at, digit(n));
-    }
-    let next = put_number(out, at, n / 10);
-    put_byte(out, next, digit(n % 10))
+// A lent list, and the position of the next byte.
+#[derive(Drop)]
+pub struct Out<'a> {
+    pub bytes: &'a mut [u8],
+    pub at: usize,
+    ghost in_range: { at < 2 ^ 64 },
 }
 
-// A tab and a number.
-fn put_field(out: &mut [u8], at: usize, n: u64) -> usize
-    requires { at + 1 < 2 ^ 63 }
-    ensures { Put out.old out.new at (tab ∷ decimal n) result × (result ≤ at + (1 + wide_digits)) }
-{
-    let next = put_byte(out, at, TAB);
-    put_number(out, next, n)
-}
+impl<'a> Out<'a> {
+    ghost use Rattle.text.specs.Out.{Puts};
 
-// How many of count fields are written.
-fn fields_written(count: usize) -> usize
-    ensures { result ≡ min count line_fields }
-{
-    if count < LINE_FIELDS {
-        return count;
+    pub fn new(bytes: &'a mut [u8]) -> Out<'a>
+        ensures same_reference { result.bytes.ghost_name ≡ bytes.entry.ghost_name }
+        ensures bytes { result.bytes.now ≡ bytes.old }
+        ensures at { result.at ≡ 0 }
+    {
+        Out { bytes, at: 0 }
     }
-    LINE_FIELDS
-}
 
-// A line of a letter and the first count fields; nothing where it would start past MAX_AT.
-pub fn put_line(
-    out: &mut [u8],
-    at: usize,
-    letter: u8,
-    fields: [u64; LINE_FIELDS],
-    count: usize,
-) -> usize
-    ensures { LinePut out.old out.new at letter (take count fields) result }
-{
-    if MAX_AT < at {
-        return at;
+    pub fn put(&mut self, byte: u8)
+        ensures { Puts self.old self.new (byte ∷ []) }
+    {
+        if self.at < self.bytes.len() {
+            self.bytes[self.at] = byte;
+        }
+        self.at = self.at.saturating_add(1);
     }
-    let mut next = put_byte(out, at, letter);
-    let written = fields_written(count);
-    let mut i: usize = 0;
-    while i < written {
-        next = put_field(out, next, fields[i]);
-        i = i + 1;
+
+    pub fn put_all(&mut self, bytes: &[u8])
+        ensures { Puts self.old self.new bytes.now }
+    {
+        for byte in bytes {
+            self.put(*byte);
+        }
     }
-    put_byte(out, next, NEWLINE)
+
+    // The digits of a number, the most significant first. By hand: what is printed is promised byte by byte, which std does not say of its printing.
+    pub fn put_number(&mut self, n: u64)
+        ensures put { Puts self.old self.new (decimal n) }
+        ensures few { self.new.at ≤ self.old.at + wide_digits }
+    {
+        if n >= 10 {
+            self.put_number(n / 10);
+        }
+        self.put(digit(n % 10));
+    }
+
+    // A line of a letter and its fields; nothing where it would start past MAX_AT. docs/PROMISES.md names it; the lines of a plan are put by `put_record`.
+    pub fn put_line(&mut self, letter: u8, fields: &[u64])
+        ensures line { self.old.at ≤ max_at → Puts self.old self.new (line_of letter fields.now) }
+        ensures past { max_at < self.old.at → Puts self.old self.new [] }
+        ensures short { length fields.now ≤ line_fields → self.new.at ≤ self.old.at + max_line }
+    {
+        if self.at <= MAX_AT {
+            self.put_record(letter, fields);
+        }
+    }
+
+    // A line of a letter and its fields, wherever it starts.
+    pub fn put_record(&mut self, letter: u8, fields: &[u64])
+        ensures line { Puts self.old self.new (line_of letter fields.now) }
+        ensures short { length fields.now ≤ line_fields → self.new.at ≤ self.old.at + max_line }
+    {
+        self.put(letter);
+        for n in fields {
+            self.put(TAB);
+            self.put_number(*n);
+        }
+        self.put(NEWLINE);
+    }
 }

@@ -8,12 +8,13 @@ use history::planning::MAX_OUTPUT;
 use history::wall::wall_text;
 use input::{MAX_READ, read_text};
 
-// What goes wrong is told on standard error; where that cannot be written either, nobody can be told.
+// What goes wrong is told on standard error; where that cannot be written either, nobody can be told. One line, with no contract to share.
 fn tell(rt: &impl Eprint, what: &str) {
     let _ = rt.eprintln(what);
 }
 
-// Writes what the program prints for a text.
+// Writes what the program prints for a text. The program `sheet` has `tell`, `print` and `main` of the same form: what each prints is a `requires` of its own
+// here, and one body for both would have to be handed that statement, too, and the words for what goes wrong.
 fn print(rt: &(impl Print + Eprint), text: &[u8], page: &[u8])
     requires { page.now ≡ wall_of text.now }
 {
@@ -24,13 +25,11 @@ fn print(rt: &(impl Print + Eprint), text: &[u8], page: &[u8])
 
 fn main(rt: HostRuntime) {
     let mut text = [0u8; MAX_READ];
-    let input = read_text(&mut rt.stdin(), &mut text);
     // Half a text can be well formed, and its page would look like a good one.
-    if !input.whole {
+    let Ok(n) = read_text(&mut rt.stdin(), &mut text) else {
         tell(&rt, "wall: input cannot be read");
         return;
-    }
-    let n = input.bytes;
+    };
     let mut out = [0u8; MAX_OUTPUT];
     let m = wall_text(&text[..n], &mut out);
     print(&rt, &text[..n], &out[..m]);

@@ -1,55 +1,34 @@
--- `count` meets its contract: the first refusal that is met, or the count on the live edges.
-use mathlib.Core.Path.{◌≡◌, sym, ◌∙◌}
+-- `count` meets its contract: what it is lent says what the board says.
+use Rattle.std.specs.Prelude.{Ok}
+use mathlib.Core.Path.{◌≡◌, sym, ap, ◌∙◌}
 use mathlib.Core.Bool.{true, false}
 use Prim.Native.Nat.{◌≤◌}
+use Rattle.refusals.specs.Demand1.{first_of}
+use Rattle.board.specs.Cells.{pence}
 use Rattle.supply.specs.Board.{all_places}
 use Rattle.supply.specs.ByItem.{live}
-use Rattle.supply.specs.Sound.{Sound}
 use Rattle.supply.specs.SoundTest.{sound_test}
-use Rattle.supply.proofs.Shaping.{sound-fits, sound-located}
-use Rattle.supply.proofs.SoundLaw.{sound-decides}
 use Rattle.counting.specs.Limits.{max_counted}
 use Rattle.counting.specs.Rows.{RowsOf}
-use Rattle.counting.specs.Call.{large_test}
-use Rattle.counting.proofs.Outcomes.{count-spoilt, count-large, count-served, countable, counts}
-use Rattle.counting.proofs.Demand1.{not-large}
+use Rattle.counting.specs.Call.{large_test, count_by, count_of}
+use Rattle.counting.proofs.Outcomes.{countable, counts}
 use Rattle.counting.proofs.count.Goals as goal
 
-pub returns-then-not-is_sound_in : goal.returns-then-not-is_sound_in
-returns-then-not-is_sound_in c = count-spoilt c.args.board (sym c.is_sound_in.ensures ∙ c.if-not-is_sound_in.true)
-
-pub returns-then-is_large : goal.returns-then-is_large
-returns-then-is_large c =
-    let sound : sound_test c.args.board ≡ true = sym c.is_sound_in.ensures ∙ c.if-not-is_sound_in.false in
-    count-large _ sound (sym c.is_large.ensures ∙ c.if-is_large.true)
-
-pub starts_of-starts-requires : goal.starts_of-starts-requires
-starts_of-starts-requires c =
-    let sound : sound_test c.args.board ≡ true = sym c.is_sound_in.ensures ∙ c.if-not-is_sound_in.false in
-    let sure : Sound c.args.board = (sound-decides _).sound sound in
-    sound-fits _ sure
-
-pub rows_of-rows-requires : goal.rows_of-rows-requires
-rows_of-rows-requires c =
-    let sound : sound_test c.args.board ≡ true = sym c.is_sound_in.ensures ∙ c.if-not-is_sound_in.false in
-    let sure : Sound c.args.board = (sound-decides _).sound sound in
-    sound-located _ _ sure c.starts_of-starts.ensures
-
-pub greatest_weight-weight-requires : goal.greatest_weight-weight-requires
-greatest_weight-weight-requires c =
-    let sound : sound_test c.args.board ≡ true = sym c.is_sound_in.ensures ∙ c.if-not-is_sound_in.false in
-    let sure : Sound c.args.board = (sound-decides _).sound sound in
-    let small : large_test c.args.board.market.arrived c.args.board.market.items ≡ false = sym c.is_large.ensures ∙ c.if-is_large.false in
-    let few : (c.args.board.market.arrived ≤ max_counted) × (all_places c.args.board.items ≤ max_counted) = let (bidders, places) = not-large _ _ small in (bidders, rw sure.laid.all at places) in
-    let lent : RowsOf c.args.board.items (live c.args.board) c.rows_of-rows.result = c.rows_of-rows.ensures in
-    countable _ sure few.0 few.1 lent
+pub greatest_weight-requires : goal.greatest_weight-requires
+greatest_weight-requires c =
+    let sound = c.is_sound.ensures.sound.0 c.if-not-is_sound.false in
+    let places : all_places c.args.board.now.items ≤ max_counted = rw sound.laid.all at (c.is_large.ensures.places c.if-is_large.false) in
+    let lent : RowsOf c.args.board.now.items (live c.args.board.now) c.rows_of-rows.result = rw c.of.ensures at c.rows_of-rows.ensures in
+    countable _ sound (c.is_large.ensures.bidders c.if-is_large.false) places lent
 
 pub returns : goal.returns
+unfolding count_of count_by first_of
 returns c =
-    let sound : sound_test c.args.board ≡ true = sym c.is_sound_in.ensures ∙ c.if-not-is_sound_in.false in
-    let small : large_test c.args.board.market.arrived c.args.board.market.items ≡ false = sym c.is_large.ensures ∙ c.if-is_large.false in
-    let sure : Sound c.args.board = (sound-decides _).sound sound in
-    let few : (c.args.board.market.arrived ≤ max_counted) × (all_places c.args.board.items ≤ max_counted) = let (bidders, places) = not-large _ _ small in (bidders, rw sure.laid.all at places) in
-    let lent : RowsOf c.args.board.items (live c.args.board) c.rows_of-rows.result = c.rows_of-rows.ensures in
-    count-served _ sound small
-    (c.greatest_weight-weight.ensures.0 ∙ counts _ sure few.0 few.1 lent c.free_of-free.result c.free_of-free.ensures)
+    let b = c.args.board.now in
+    let sound = c.is_sound.ensures.sound.0 c.if-not-is_sound.false in
+    let places : all_places b.items ≤ max_counted = rw sound.laid.all at (c.is_large.ensures.places c.if-is_large.false) in
+    let lent : RowsOf b.items (live b) c.rows_of-rows.result = rw c.of.ensures at c.rows_of-rows.ensures in
+    let test : sound_test b ≡ true = sym c.is_sound.ensures.test ∙ c.if-not-is_sound.false in
+    let small : large_test b.market.arrived (all_places b.items) ≡ false = rw sound.laid.all at (sym c.is_large.ensures.test ∙ c.if-is_large.false) in
+    rw (test, small) (ap (λ n. Ok (pence n)) (c.greatest_weight.ensures.count ∙
+    counts _ sound (c.is_large.ensures.bidders c.if-is_large.false) places lent c.free_of-free.result c.free_of-free.ensures))

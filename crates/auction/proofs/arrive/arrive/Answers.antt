@@ -1,8 +1,10 @@
--- `arrive::arrive` meets its contract: the first edges decide.
-use mathlib.Core.Path.{sym, ap, ◌∙◌}
-use Rattle.auction.specs.Arrive.{arrive_of}
-use Rattle.auction.proofs.EnoughEdges.{enough-edges}
+-- `arrive::arrive` meets its contract.
+use mathlib.Core.Path.{sym, ◌∙◌}
+use Rattle.auction.proofs.CallVerdicts.{arrive-spoilt}
 use Rattle.auction.proofs.arrive.arrive.Goals as goal
 
-pub returns : goal.returns
-returns c = c.arrive_buffer.ensures ∙ (ap (arrive_of c.args.board) c.gather.ensures ∙ sym (enough-edges c.args.board c.args.edges.now))
+pub returns-then-not-is_sound-clause-answers : goal.returns-then-not-is_sound-clause-answers
+returns-then-not-is_sound-clause-answers c = sym (arrive-spoilt _ _ (sym c.is_sound.ensures.test ∙ c.if-not-is_sound.true))
+
+pub arrive_in-requires-clause-sound : goal.arrive_in-requires-clause-sound
+arrive_in-requires-clause-sound c = c.is_sound.ensures.sound.0 c.if-not-is_sound.false

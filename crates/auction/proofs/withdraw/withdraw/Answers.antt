@@ -1,40 +1,10 @@
 -- `withdraw::withdraw` meets its contract.
 use mathlib.Core.Path.{sym, ◌∙◌}
-use Prim.Native.Nat.{ℕ}
-use lib.ListN.{length-replicate}
-use borrow.Author.Tests.{not-true, not-false}
-use Rattle.board.specs.Limits.{max_items}
-use Rattle.supply.specs.declared.record.Board.{Board}
-use Rattle.supply.specs.Sound.{Sound}
-use Rattle.supply.proofs.SoundLaw.{sound-decides}
 use Rattle.auction.proofs.CallVerdicts.{withdraw-spoilt}
 use Rattle.auction.proofs.withdraw.withdraw.Goals as goal
-use Rattle.auction.proofs.withdraw.withdraw.Lts as Lts
-use Rattle.auction.proofs.withdraw.withdraw.Tie as Tie
-use Rattle.auction.proofs.withdraw.withdraw.Reads as Reads
 
--- The place itself, below what types say there
-abbrev Raw-Else-not-is_sound_in : Type 0
-Raw-Else-not-is_sound_in = Lts.Else1 Tie.the-claims Reads.Pre Reads.Post
+pub returns-then-not-is_sound-clause-answers : goal.returns-then-not-is_sound-clause-answers
+returns-then-not-is_sound-clause-answers c = sym (withdraw-spoilt _ _ (sym c.is_sound.ensures.test ∙ c.if-not-is_sound.true))
 
-pub returns-then-not-is_sound_in : goal.returns-then-not-is_sound_in
-returns-then-not-is_sound_in c = sym (withdraw-spoilt _ _ (sym c.is_sound_in.ensures ∙ not-true _ c.if-not-is_sound_in.true-raw))
-
--- The board is sound
-abbrev board : Raw-Else-not-is_sound_in → Board
-board c = c.args.board
-
-sound : (c : Raw-Else-not-is_sound_in) → Sound (board c)
-sound c = (sound-decides _).sound (sym c.is_sound_in.ensures ∙ not-false _ c.if-not-is_sound_in.false-raw)
-
-pub file_floors-requires : goal.file_floors-requires
-file_floors-requires c =
-    let s = (sound c.before.before.before.before).auction in
-    (s.items.1, s.slack.below, length-replicate {A = ℕ} max_items 0, length-replicate {A = ℕ} max_items 0)
-
-pub withdraw_in-end-requires : goal.withdraw_in-end-requires
-withdraw_in-end-requires c =
-    (sound c.before.before.before.before.before.before.before.before, c.file_floors.ensures)
-
-pub returns : goal.returns
-returns c = c.withdraw_in-end.ensures.0
+pub withdraw_in-requires-clause-sound : goal.withdraw_in-requires-clause-sound
+withdraw_in-requires-clause-sound c = c.is_sound.ensures.sound.0 c.if-not-is_sound.false

@@ -1,60 +1,60 @@
 -- `withdraw::withdraw_in` meets its contract: refused in the order of the checks, else released.
-use mathlib.Core.Path.{◌≡◌, sym, ◌∙◌}
-use Prim.Native.Nat.{ℕ, ◌-◌}
-use native.Mathlib.Nat.{sub-zero}
-use lib.ListN.{length, take}
+use Rattle.std.specs.Prelude.{Ok}
+use mathlib.Core.Path.{◌≡◌, sym, ap, ◌∙◌}
+use Prim.Native.Nat.{ℕ}
+use lib.ListN.{length}
 use Rattle.duality.specs.Lists.{cells}
 use Rattle.board.specs.Cells.{auction}
-use Rattle.supply.specs.declared.record.Items.{Items}
-use Rattle.refusals.specs.declared.Verdict.{Verdict}
-use Rattle.refusals.specs.declared.Verdict.TheVariants.{Served}
-use Rattle.refusals.specs.Demand1.{first_of}
-use Rattle.supply.specs.ByItem.{gone_by}
+use Rattle.supply.specs.declared.record.Board.{Board}
+use Rattle.refusals.specs.Demand1.{first_of, Verdict}
+use Rattle.supply.specs.ByItem.{withdrawn_at}
 use Rattle.auction.specs.Items.{items_checks}
 use mathlib.Core.List.{List}
-use Rattle.supply.specs.Board as supply
 use Rattle.supply.specs.Spread.{Listable}
+use Rattle.refusals.proofs.Verdicts.{refused_up}
 use Rattle.supply.proofs.SoundLaw.{sound-decides}
 use Rattle.supply.proofs.Shaping.{sound-located, sound-fits}
-use Rattle.bidding.specs.Rule.{after_chain}
+use Rattle.bidding.specs.Rule.{done, after_chain}
+use Rattle.auction.specs.Withdraw.{withdrawal}
 use Rattle.auction.proofs.ItemsLaw.{served-items}
 use Rattle.auction.proofs.CallVerdicts.{withdraw-refused, withdraw-left}
 use Rattle.auction.proofs.Naming.{places-listed}
 use Rattle.auction.proofs.withdraw.withdraw_in.Goals as goal
 
--- Items that passed their tests can be listed
-listable : (known : Items) (withdrawn : List ℕ) (items : List ℕ) (v : Verdict) → v ≡ first_of (items_checks known.count (gone_by known withdrawn) (cells items) 0 (length items)) →
-    v ≡ Served → Listable known (cells items) (length items)
-listable known withdrawn items v e f = let a = served-items _ _ _ _ (sym e ∙ f) in record { within = a.known; rising = a.rising }
+-- What the sheet's tests say, of the board that it is of
+tested : {s b : Board} (items : List ℕ) {v w : Verdict} → s ≡ b → v ≡ first_of (items_checks s.items.count (withdrawn_at s) (cells items) 0 (length items)) → v ≡ w →
+    first_of (items_checks b.items.count (withdrawn_at b) (cells items) 0 (length items)) ≡ w
+tested items e f g = rw e at (sym f ∙ g)
 
--- Their places: the part of the list that is lent
-places : (count : ℕ) (numbers all : List ℕ) → take count numbers ≡ all → take (count - 0) numbers ≡ all
-places count numbers all e = simp sub-zero e
+-- Items that passed their tests can be listed
+listable : (b : Board) (items : List ℕ) → first_of (items_checks b.items.count (withdrawn_at b) (cells items) 0 (length items)) ≡ Ok tt →
+    Listable b.items (cells items) (length items)
+listable b items e = let a = served-items _ _ _ _ e in record { within = a.known; rising = a.rising }
 
 -- ---- The needs
-pub starts_of-starts-requires : goal.starts_of-starts-requires
-starts_of-starts-requires c = sound-fits (supply.board c.args.known c.args.market c.args.weights.now c.args.state) c.requires.0
-
-pub items_verdict-verdict-requires : goal.items_verdict-verdict-requires
-items_verdict-verdict-requires c =
-    sound-located (supply.board c.args.known c.args.market c.args.weights.now c.args.state) _ c.requires.0 c.starts_of-starts.ensures
+pub new-requires : goal.new-requires
+new-requires c = sound-located c.args.board.now _ c.requires.sound c.starts_of-starts.ensures
 
 pub spread_items-places-requires : goal.spread_items-places-requires
 spread_items-places-requires c =
-    (sound-fits (supply.board c.args.known c.args.market c.args.weights.now c.args.state) c.requires.0, c.starts_of-starts.ensures, listable c.args.known c.args.market.withdrawn c.args.items.now _ c.items_verdict-verdict.ensures c.in_default.is)
+    record {
+      fits = sound-fits c.args.board.now c.requires.sound;
+      starts = c.starts_of-starts.ensures;
+      listable = listable c.args.board.now c.args.items.now (tested _ c.new.ensures c.items_verdict.ensures c.in_ok-items_verdict.was);
+    }
 
-pub release-moved-requires : goal.release-moved-requires
-release-moved-requires c =
-    (c.requires.0.auction, rw (places _ _ _ c.spread_items-places.ensures.1) (places-listed (supply.board c.args.known c.args.market c.args.weights.now c.args.state) c.args.items.now c.requires.0 (listable c.args.known c.args.market.withdrawn c.args.items.now _ c.items_verdict-verdict.ensures c.in_default.is)), c.requires.1.size, c.requires.1.size₂)
+pub release-bids-requires : goal.release-bids-requires
+release-bids-requires c = record {
+  sound = c.requires.sound.auction;
+  listed = rw (c.as_slice.ensures.value ∙ c.spread_items-places.ensures) (places-listed c.args.board.now c.args.items.now c.requires.sound (listable c.args.board.now c.args.items.now (tested _ c.new.ensures c.items_verdict.ensures c.in_ok-items_verdict.was)));
+}
 
-pub returns-in_default : goal.returns-in_default
-returns-in_default c = (
-  withdraw-left (supply.board c.args.known c.args.market c.args.weights.now c.args.state) _ ((sound-decides _).complete c.requires.0) (sym c.items_verdict-verdict.ensures ∙ c.in_default.is) _
-      (after_chain (auction c.release-moved.result.market c.args.weights.now c.release-moved.result.state) c.release-moved.result.bids)
-      (places _ _ _ c.spread_items-places.ensures.1) c.release-moved.ensures.0,
-  c.release-moved.ensures.1,
-)
+pub returns-clause-answers : goal.returns-clause-answers
+returns-clause-answers c =
+    withdraw-left c.args.board.now _ ((sound-decides _).complete c.requires.sound) (tested _ c.new.ensures c.items_verdict.ensures c.in_ok-items_verdict.was) _
+    (after_chain (auction c.release-bids.new.market c.args.board.now.weights c.release-bids.new.state) c.release-bids.result)
+    (c.as_slice.ensures.value ∙ c.spread_items-places.ensures) c.release-bids.ensures.withdrawn
 
-pub returns : goal.returns
-returns c =
-    (sym (withdraw-refused (supply.board c.args.known c.args.market c.args.weights.now c.args.state) _ ((sound-decides _).complete c.requires.0) _ (sym c.items_verdict-verdict.ensures ∙ c.in-Refused.is)), c.requires.1)
+pub returns-in_err-items_verdict-clause-answers : goal.returns-in_err-items_verdict-clause-answers
+returns-in_err-items_verdict-clause-answers c =
+    ap (λ a. done (withdrawal c.args.board.now a)) (refused_up c.from_residual.result c.from_residual.ensures.1) ∙ sym (withdraw-refused c.args.board.now _ ((sound-decides _).complete c.requires.sound) _ (tested _ c.new.ensures c.items_verdict.ensures c.in_err-items_verdict.was))

@@ -5,16 +5,17 @@ use Rattle.bidding.proofs.Starts.{arrival-ready}
 use Rattle.bidding.proofs.Moving.{entered-as}
 use Rattle.bidding.proofs.moves.enter.Goals as goal
 
-pub settle-end-requires : goal.settle-end-requires
+pub settle-requires : goal.settle-requires
 unfolding entered
-settle-end-requires c =
-    let p = c.requires in (
-      rw c.file_row.ensures (arrival-ready p.0 p.1 p.2),
-      record { above = p.3.above; size = p.3.size; size₂ = p.3.size₂; whole = p.3.whole },
-    )
+settle-requires c =
+    let p = c.requires in
+    record {
+      ready = rw c.file_row.ensures (arrival-ready p.sound p.room p.row);
+      floored = record { above = p.floored.above; size = p.floored.size; size₂ = p.floored.size₂; whole = p.floored.whole };
+    }
 
 pub returns : goal.returns
-returns c = (
-  entered-as (auction c.args.market c.args.weights.now c.args.state) _ _ _ c.file_row.ensures c.settle-end.ensures.0,
-  c.settle-end.ensures.1,
-)
+returns c = record {
+  arrived = entered-as (auction c.args.market.now c.args.weights.now c.args.state.now) _ _ _ c.file_row.ensures c.settle.ensures.chain;
+  floored = c.settle.ensures.floored;
+}

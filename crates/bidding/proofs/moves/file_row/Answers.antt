@@ -1,15 +1,17 @@
--- `moves::file_row` meets its contract: so many cells are written.
-use mathlib.Core.Path.{refl}
+-- `moves::file_row` meets its contract: the part of the weights is the row.
+use mathlib.Core.Path.{◌≡◌, refl}
+use mathlib.Core.List.{List, append_assoc}
+use Prim.Native.Nat.{ℕ, ◌+◌, ◌≤◌}
 use native.Mathlib.Omega.{arith}
-use borrow.Author.Rules.{rules}
-use Rattle.board.proofs.Filed.{file-next, file-end}
+use lib.ListN.{length}
+use lib.Seq.{sets}
+use borrow.Rule.Slice.PartMut.{put_mid}
+use Rattle.std.proofs.lemmas.List.{drop-drop}
+use Rattle.std.proofs.lemmas.List.Edits.{sets-eq}
 use Rattle.bidding.proofs.moves.file_row.Goals as goal
 
-pub loop-k-init : goal.loop-k-init
-loop-k-init c = (search rules, refl, search rules)
-
-pub loop-k-preserved : goal.loop-k-preserved
-loop-k-preserved c = (omega arith, file-next _ _ c.args.row _ c.loop-k.k (omega arith) c.loop-k.invariant.1, c.loop-k.invariant.2)
+put-sets : (a k : ℕ) (xs ys zs : List ℕ) → ys ≡ zs → k ≡ length zs → a + length zs ≤ length xs → put_mid a k xs ys ≡ sets xs a zs
+put-sets a k xs ys zs e n l = rw (e, n, sets-eq zs xs a l, append_assoc, drop-drop) refl
 
 pub returns : goal.returns
-returns c = file-end _ _ c.args.row _ c.loop-k.k (omega arith) c.loop-k.invariant.1
+returns c = put-sets _ _ _ _ _ c.copy_from_slice.ensures.after (omega arith) (omega arith)

@@ -4,18 +4,19 @@ use Rattle.bidding.proofs.Marks.{marked-wait}
 use Rattle.bidding.proofs.Withdrawing.{marked-chains}
 use Rattle.bidding.proofs.moves.release.Goals as goal
 
-pub vacate-left-requires : goal.vacate-left-requires
-vacate-left-requires c = (c.args.weights.now, c.requires.0, c.requires.1)
+pub vacate-waiting-requires : goal.vacate-waiting-requires
+vacate-waiting-requires c = (c.args.weights.now, c.requires.sound, c.requires.listed)
 
-pub file_floors-requires : goal.file_floors-requires
-file_floors-requires c =
-    let w = marked-wait c.requires.0 c.requires.1 (c.vacate-left.ensures c.args.weights.now c.requires.0) in
-    let p = c.requires in
-    (w.items.1, w.slack.below, p.2, p.3)
+pub of-requires : goal.of-requires
+of-requires c =
+    let w = marked-wait c.requires.sound c.requires.listed (c.vacate-waiting.ensures c.args.weights.now c.requires.sound) in
+    record { items = w.items.1; slack = w.slack.below }
 
-pub settle_all-end-requires : goal.settle_all-end-requires
-settle_all-end-requires c = (marked-wait c.requires.0 c.requires.1 (c.vacate-left.ensures c.args.weights.now c.requires.0), c.file_floors.ensures)
+pub settle_all-requires : goal.settle_all-requires
+settle_all-requires c = record { waiting = marked-wait c.requires.sound c.requires.listed (c.vacate-waiting.ensures c.args.weights.now c.requires.sound); floored = c.of.ensures }
 
 pub returns : goal.returns
-returns c =
-    (c.settle_all-end.ensures.0 ∙ marked-chains c.requires.0 c.requires.1 (c.vacate-left.ensures c.args.weights.now c.requires.0), c.settle_all-end.ensures.1)
+returns c = record {
+  withdrawn = c.settle_all.ensures.chains ∙ marked-chains c.requires.sound c.requires.listed (c.vacate-waiting.ensures c.args.weights.now c.requires.sound);
+  floored = c.settle_all.ensures.floored;
+}

@@ -1,5 +1,6 @@
 -- `moves::vacate` meets its contract: the items that have been passed are gone, and their holders are marked.
-use mathlib.Core.Path.{◌≡◌, refl, ◌∙◌}
+use mathlib.Core.Path.{◌≡◌, refl, sym, ◌∙◌}
+use mathlib.Core.Bool.{Bool, true}
 use mathlib.Core.List.{List}
 use Prim.Native.Nat.{ℕ, suc, ◌+◌, ◌-◌, ◌≤◌, ◌<◌}
 use native.Mathlib.Numerals.{add-one}
@@ -16,11 +17,12 @@ use Rattle.bidding.specs.Moves.{released}
 use Rattle.bidding.specs.Withdrawals.{Vacates}
 use Rattle.bidding.specs.WithdrawalLaws.{Listed}
 use Rattle.bidding.proofs.Marks.{marked-none, marked-free, marked-held, left-cell, left-bidder}
+use Rattle.bidding.proofs.Bids.{cell_free, cell-held}
 use Rattle.bidding.proofs.moves.vacate.Goals as goal
-use Rattle.bidding.proofs.moves.vacate.Goals.{then-held-ne0, else-held-ne0}
+use Rattle.bidding.proofs.moves.vacate.Goals.{in-Held, in_default}
 
 -- ---- What is known at the loop's head, where an item is left, on plain variables
-module _ {market first : Market} {state was : State} {w : List ℕ} (items waiting : List ℕ) (i : ℕ) (s : Sound (auction first w was))
+module _ {market first : Market} {state was : State} {w : List ℕ} (items : List ℕ) (waiting : List Bool) (i : ℕ) (s : Sound (auction first w was))
     (l : Listed (auction first w was) (cells items) (length items)) (v : Vacates (auction first w was) (cells items) i (auction market w state) waiting)
     (more : i < length items) where
   listed : Listed (auction first w was) (cells items) (suc i)
@@ -35,33 +37,28 @@ module _ {market first : Market} {state was : State} {w : List ℕ} (items waiti
   bidder : cells state.holder (cells items i - 1) ≤ max_bidders
   bidder = omega (arith, left-bidder s listed v, s.arrived)
 
--- A cell that is not 0 names the bidder one below it
-named : (held : ℕ) → (held ≡ 0 → ⊥) → held ≡ suc (held - 1)
-named held ne = omega arith
-
-pub loop-i-init : goal.loop-i-init
-loop-i-init c = (omega arith, refl, λ w s. marked-none _)
+pub loop-item-init : goal.loop-item-init
+loop-item-init c = (refl, λ w s. marked-none _)
 
 pub bounds-state-bidder : goal.bounds-state-bidder
-bounds-state-bidder c = omega (arith, bidder c.args.items.now c.loop-i.waiting c.loop-i.i c.requires.1 c.requires.2 (c.loop-i.invariant.2 c.requires.0 c.requires.1) c.loop-i-test.true, c.if-held-ne0.true)
+bounds-state-bidder c = omega (arith, cell-held _ _ (sym c.holder_of-before.ensures ∙ c.in-Held.is), bidder c.args.items.now c.loop-item.waiting c.loop-item.item-index c.requires.1 c.requires.2 (c.loop-item.invariant.1 c.requires.0 c.requires.1) c.loop-item-test.true)
 
 pub bounds-waiting-bidder : goal.bounds-waiting-bidder
-bounds-waiting-bidder c = omega (arith, bidder c.args.items.now c.loop-i.waiting c.loop-i.i c.requires.1 c.requires.2 (c.loop-i.invariant.2 c.requires.0 c.requires.1) c.loop-i-test.true, c.if-held-ne0.true)
+bounds-waiting-bidder c = omega (arith, cell-held _ _ (sym c.holder_of-before.ensures ∙ c.in-Held.is), bidder c.args.items.now c.loop-item.waiting c.loop-item.item-index c.requires.1 c.requires.2 (c.loop-item.invariant.1 c.requires.0 c.requires.1) c.loop-item-test.true)
 
-pub loop-i-preserved : goal.loop-i-preserved
+pub loop-item-preserved : goal.loop-item-preserved
 unfolding released displaced
-loop-i-preserved c =
-    let size = c.loop-i.invariant.1 in
-    let next : c.loop-i.i + 1 ≡ suc c.loop-i.i = add-one c.loop-i.i in
-    let all = listed c.args.items.now c.loop-i.waiting c.loop-i.i c.requires.1 c.requires.2 (c.loop-i.invariant.2 c.requires.0 c.requires.1) c.loop-i-test.true in
-    let most = bidder c.args.items.now c.loop-i.waiting c.loop-i.i c.requires.1 c.requires.2 (c.loop-i.invariant.2 c.requires.0 c.requires.1) c.loop-i-test.true in (
-      omega (arith, c.loop-i-test.true),
-      elim c.if-held-ne0.branch [ then-held-ne0 u ↦ rw u.waiting-is (length-set c.loop-i.waiting _ 1 ∙ size) | else-held-ne0 u ↦ rw u.waiting-is size ],
-      λ w s. rw next (elim c.if-held-ne0.branch [
-        | then-held-ne0 u ↦ rw (u.state-is, u.waiting-is) (marked-held s all (c.loop-i.invariant.2 w s) _ (named _ u.if-held-ne0.true) (omega (arith, most, size)))
-        | else-held-ne0 u ↦ rw (u.state-is, u.waiting-is) (marked-free s all (c.loop-i.invariant.2 w s) u.if-held-ne0.false)
+loop-item-preserved c =
+    let size = c.loop-item.invariant.0 in
+    let next : c.loop-item.item-index + 1 ≡ suc c.loop-item.item-index = add-one c.loop-item.item-index in
+    let all = listed c.args.items.now c.loop-item.waiting c.loop-item.item-index c.requires.1 c.requires.2 (c.loop-item.invariant.1 c.requires.0 c.requires.1) c.loop-item-test.true in
+    let most = bidder c.args.items.now c.loop-item.waiting c.loop-item.item-index c.requires.1 c.requires.2 (c.loop-item.invariant.1 c.requires.0 c.requires.1) c.loop-item-test.true in (
+      elim c.match-before.branch [ in-Held u ↦ rw u.waiting-is (length-set c.loop-item.waiting _ true ∙ size) | in_default u ↦ rw u.waiting-is size ],
+      λ w s. rw next (elim c.match-before.branch [
+        | in-Held u ↦ rw (u.state-is, u.waiting-is) (marked-held s all (c.loop-item.invariant.1 w s) _ (cell-held _ _ (sym c.holder_of-before.ensures ∙ u.in-Held.is)) (omega (arith, cell-held _ _ (sym c.holder_of-before.ensures ∙ u.in-Held.is), most, size)))
+        | in_default u ↦ rw (u.state-is, u.waiting-is) (marked-free s all (c.loop-item.invariant.1 w s) (cell_free _ (sym c.holder_of-before.ensures ∙ u.in_default.is)))
       ]),
     )
 
 pub returns : goal.returns
-returns c = let all : c.loop-i.i ≡ length c.args.items.now = omega (arith, c.loop-i.invariant.0) in rw (← all) c.loop-i.invariant.2
+returns c = let all : c.loop-item.item-index ≡ length c.args.items.now = omega arith in rw (← all) c.loop-item.invariant.1

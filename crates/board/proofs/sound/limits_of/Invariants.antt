@@ -1,12 +1,8 @@
 -- `sound::limits_of` meets its contract: the list is filled from its start.
-use Prim.Native.Nat.{◌-◌, ◌≤◌}
 use Rattle.board.specs.Limits.{max_items}
 use Rattle.board.specs.SoundTest.{limit_at}
 use Rattle.board.proofs.Filling.{Filled}
 use Rattle.board.proofs.sound.limits_of.Given as goal
 
 abbrev pub invariant-loop-k : goal.invariant-loop-k
-invariant-loop-k l = (l.k ≤ max_items) × Filled max_items (limit_at l.items) l.k l.limit
-
-abbrev pub decreases-loop-k : goal.decreases-loop-k
-decreases-loop-k l = max_items - l.k
+invariant-loop-k l = Filled max_items (limit_at l.items) l.k l.limit

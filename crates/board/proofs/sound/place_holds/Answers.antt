@@ -1,29 +1,22 @@
 -- `sound::place_holds` meets its contract: gain and price are compared by a difference.
 use Prim.Native.Nat.{◌+◌, ◌-◌}
 use native.Mathlib.Omega.{arith}
-use borrow.Author.Tests.{eq-eqb, ne_eqb}
-use Rattle.duality.proofs.Decide.{eq-decides, reword, same_test, false-is, clash}
+use borrow.Author.Tests.{ne_eqb}
+use Rattle.duality.proofs.Decide.{eq-decides, reword, same_test, false-is, clash, le-decides}
 use Rattle.board.proofs.SoundTests.{pair-decides}
+use mathlib.Core.Logic.{inl, inr}
 use Rattle.board.proofs.sound.place_holds.Goals as goal
 
-pub returns-then-item-eq0 : goal.returns-then-item-eq0
-returns-then-item-eq0 c = rw (eq-eqb _ _ c.if-item-eq0.true)
-
 pub returns-then-withdrawn : goal.returns-then-withdrawn
-returns-then-withdrawn c = rw (ne_eqb _ _ c.if-item-eq0.false) (false-is _ (pair-decides _ _ _ _ _) (λ h. clash _ c.if-withdrawn.true h.live))
-
-pub returns-then-weight-eq0 : goal.returns-then-weight-eq0
-returns-then-weight-eq0 c =
-    rw (ne_eqb _ _ c.if-item-eq0.false) (false-is _ (pair-decides _ _ _ _ _) (λ h. omega (arith, h.edge)))
+returns-then-withdrawn c =
+    let a = c.args in
+    rw (ne_eqb _ _ c.if-item-eq0.false) (false-is _ (pair-decides (a.slack.q + a.slack.p) a.weight.0 a.price.0 a.withdrawn a.gain.0) (λ h. elim c.then-withdrawn.either [
+      | inl gone ↦ clash _ gone h.live
+      | inr bare ↦ omega (arith, bare.1, h.edge)
+    ]))
 
 pub returns-then-price-whole : goal.returns-then-price-whole
 returns-then-price-whole c =
-    rw
-    (ne_eqb _ _ c.if-item-eq0.false)
-    (false-is _ (pair-decides _ _ _ _ _) (λ h. omega (arith, h.whole, c.whole-whole.ensures)))
-
-pub returns : goal.returns
-returns c =
     let a = c.args in
     rw
     (ne_eqb _ _ c.if-item-eq0.false)
@@ -35,3 +28,14 @@ returns c =
     (pair-decides (a.slack.q + a.slack.p) a.weight.0 a.price.0 a.withdrawn a.gain.0)
     (λ h. omega (arith, h.whole, c.whole-whole.ensures))
     (λ e. record { live = c.if-withdrawn.false; edge = omega arith; whole = omega (arith, c.whole-whole.ensures) })))
+
+pub returns-else-price-whole : goal.returns-else-price-whole
+returns-else-price-whole c =
+    let a = c.args in
+    rw
+    (ne_eqb _ _ c.if-item-eq0.false)
+    (same_test _ _ (le-decides a.price.0 c.whole-whole.result.0)
+    (reword
+    (pair-decides (a.slack.q + a.slack.p) a.weight.0 a.price.0 a.withdrawn a.gain.0)
+    (λ h. omega (arith, h.whole, c.whole-whole.ensures))
+    (λ e. absurd (omega arith))))

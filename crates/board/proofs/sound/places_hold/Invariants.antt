@@ -1,8 +1,7 @@
 -- `sound::places_hold` meets its contract: the places of the bidders passed hold.
 use mathlib.Core.Path.{◌≡◌}
 use mathlib.Core.Bool.{true}
-use Prim.Native.Nat.{ℕ, ◌-◌, ◌≤◌, ◌<◌}
-use Rattle.board.specs.Limits.{max_bidders}
+use Prim.Native.Nat.{ℕ, ◌<◌}
 use Rattle.board.specs.Cells.{auction}
 use Rattle.board.specs.Live.{matching_of}
 use Rattle.board.specs.SoundTest.{place_test}
@@ -10,7 +9,4 @@ use Rattle.board.proofs.sound.places_hold.Given as goal
 
 abbrev pub invariant-loop-i : goal.invariant-loop-i
 invariant-loop-i l =
-    (l.i ≤ max_bidders) × ((j : ℕ) → j < l.i → place_test (auction l.market l.weights l.state) j (matching_of (auction l.market l.weights l.state) j) ≡ true)
-
-abbrev pub decreases-loop-i : goal.decreases-loop-i
-decreases-loop-i l = max_bidders - l.i
+    (j : ℕ) → j < l.i → place_test (auction l.market l.weights l.state) j (matching_of (auction l.market l.weights l.state) j) ≡ true

@@ -1,7 +1,7 @@
 -- `sound::rows_hold` meets its contract: the rows passed hold, and no other has an edge.
 use mathlib.Core.Path.{◌≡◌}
 use mathlib.Core.Bool.{true}
-use Prim.Native.Nat.{ℕ, ◌-◌, ◌*◌, ◌≤◌, ◌<◌}
+use Prim.Native.Nat.{ℕ, ◌-◌, ◌*◌, ◌<◌}
 use Rattle.board.specs.Limits.{max_items}
 use Rattle.board.specs.Cells.{scaled_at}
 use Rattle.board.specs.SoundPass.{room_of, needs_test, empty_test}
@@ -9,9 +9,5 @@ use Rattle.board.proofs.sound.rows_hold.Given as goal
 
 abbrev pub invariant-loop-i : goal.invariant-loop-i
 invariant-loop-i l =
-    (l.i ≤ l.arrived) ×
     (empty_test l.weights (l.arrived * max_items) ≡ true) ×
     ((j : ℕ) → j < l.i → needs_test (l.slack.q - l.slack.p) l.weights (j * max_items) l.limit l.lack (room_of (scaled_at l.gain j)) ≡ true)
-
-abbrev pub decreases-loop-i : goal.decreases-loop-i
-decreases-loop-i l = l.arrived - l.i

@@ -1,15 +1,12 @@
--- `cover::prices_verdict` meets its contract: what is left to test says the same as all.
-use Prim.Native.Nat.{suc, ◌-◌}
-use lib.ListN.{length}
+-- `cover::prices_verdict`: the prices passed hold.
+use mathlib.Core.Path.{◌≡◌}
+use mathlib.Core.Bool.{true, not, ◌&&◌, ◌||◌}
+use Prim.Native.Nat.{ℕ, ◌<◌}
+use lib.Dec.{eqb, leb}
+use Rattle.board.specs.Limits.{max_price}
 use Rattle.duality.specs.Lists.{cells}
-use Rattle.refusals.specs.declared.Refusal.TheVariants.{Price}
-use Rattle.certificate.specs.Check.{price_test}
-use Rattle.certificate.proofs.Flags.{first_flag}
-use Rattle.refusals.proofs.Places.{Passed}
+use Rattle.supply.specs.ByItem.{withdrawn_at}
 use Rattle.certificate.proofs.cover.prices_verdict.Given as goal
 
 abbrev pub invariant-loop-k : goal.invariant-loop-k
-invariant-loop-k l = Passed (λ j. Price (suc j)) (price_test (first_flag l.starts l.withdrawn) (cells l.prices)) (length l.prices) l.k
-
-abbrev pub decreases-loop-k : goal.decreases-loop-k
-decreases-loop-k l = length l.prices - l.k
+invariant-loop-k l = (j : ℕ) → j < l.k → (leb (cells l.prices j) max_price && (not (withdrawn_at l.sheet j) || eqb (cells l.prices j) 0)) ≡ true

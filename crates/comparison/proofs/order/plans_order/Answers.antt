@@ -1,13 +1,9 @@
 -- `order::plans_order` meets its contract: weights first, then cells.
-use mathlib.Core.Path.{◌∙◌}
-use Rattle.comparison.proofs.Standing.{first-smaller, second-smaller, equal-numbers}
+use mathlib.Core.Path.{ap₂, ◌∙◌}
+use Rattle.std.specs.Ordering.{ordering_then}
+use Rattle.std.specs.Cmp.{ranks}
+use Rattle.comparison.proofs.CellsInOrder.{then_smaller, cells_in_order}
 use Rattle.comparison.proofs.order.plans_order.Goals as goal
 
-pub returns-then-weight-other : goal.returns-then-weight-other
-returns-then-weight-other c = first-smaller _ _ _ c.if-weight-other.true
-
-pub returns-then-weight-other-2 : goal.returns-then-weight-other-2
-returns-then-weight-other-2 c = second-smaller _ _ _ c.if-weight-other-2.true
-
 pub returns : goal.returns
-returns c = c.cells_order.ensures ∙ equal-numbers _ _ _ c.if-weight-other.false c.if-weight-other-2.false
+returns c = c.then.ensures ∙ ap₂ ordering_then c.cmp.ensures (c.cmp-2.ensures ∙ cells_in_order _ _ c.requires) ∙ then_smaller _ _ _ _ (ranks c.args.other.0 c.args.weight.0)

@@ -8,16 +8,15 @@ pub greatest_weight-best-requires : goal.greatest_weight-best-requires
 greatest_weight-best-requires t c = (omega (arith, c.decreases), countable-rest c.requires (omega arith))
 
 pub loop-k-init : goal.loop-k-init
-loop-k-init t c = tried-none (omega arith) c.greatest_weight-best.ensures
+loop-k-init t c = tried-none (omega arith) c.greatest_weight-best.ensures.count c.greatest_weight-best.ensures.small
 
 pub greatest_weight-weight-requires : goal.greatest_weight-weight-requires
 greatest_weight-weight-requires t c = (omega (arith, c.decreases), countable-rest c.requires (omega arith))
 
 pub loop-k-preserved : goal.loop-k-preserved
 loop-k-preserved t c =
-    let at = c.loop-k.invariant in
-    let near = c.loop-k-test.true in
     elim c.if-free-k-gt0.branch [
-      | then-free-k-gt0 w ↦ rw w.best-is (tried-free at near c.requires (search rules) (omega (arith, w.if-free-k-gt0.true)) w.greatest_weight-weight.ensures w.greater-best.ensures)
-      | else-free-k-gt0 w ↦ rw w.best-is (tried-full at near (omega (arith, w.if-free-k-gt0.false)))
+      | then-free-k-gt0 w ↦ rw w.best-is (tried-free c.loop-k.invariant (omega arith) c.requires (search rules) (omega (arith, w.if-free-k-gt0.true))
+          w.greatest_weight-weight.ensures.count w.greatest_weight-weight.ensures.small w.max-best.ensures)
+      | else-free-k-gt0 w ↦ rw w.best-is (tried-full c.loop-k.invariant (omega arith) (omega (arith, w.if-free-k-gt0.false)))
     ]

@@ -1,5 +1,4 @@
 -- The measure of `trying::greatest_weight` is how many bidders are left, and its loop has tried the items before k.
-use Prim.Native.Nat.{◌-◌}
 use Rattle.counting.proofs.Turns.{Tried}
 use Rattle.counting.proofs.trying.+greatest_weight.Given as goal
 
@@ -8,6 +7,3 @@ decreases-greatest_weight l = l.left
 
 abbrev pub invariant-loop-k : goal.invariant-loop-k
 invariant-loop-k l = Tried l.left l.items l.rows l.free l.best l.k
-
-abbrev pub decreases-loop-k : goal.decreases-loop-k
-decreases-loop-k l = l.items - l.k

@@ -3,5 +3,5 @@ use mathlib.Core.Path.{sym, ap, ◌∙◌}
 use Rattle.comparison.specs.Compare.{uncompared, compared_told}
 use Rattle.exports.proofs.answers.comparison_of.Goals as goal
 
-pub returns-in-Refused : goal.returns-in-Refused
-returns-in-Refused c = ap uncompared c.refusing-refused.ensures ∙ ap compared_told (sym c.in-Refused.is)
+pub returns-in-Err : goal.returns-in-Err
+returns-in-Err c = ap uncompared c.refusing-refused.ensures ∙ ap compared_told (sym c.in-Err.is)

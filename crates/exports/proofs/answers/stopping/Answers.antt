@@ -4,4 +4,4 @@ use Rattle.refusals.specs.Told.{told}
 use Rattle.exports.proofs.answers.stopping.Goals as goal
 
 pub returns : goal.returns
-returns c = ap (λ n. told n c.args.line c.args.value) c.number.ensures
+returns c = ap (λ n. told n c.args.stop.line c.args.value) c.number.ensures

@@ -3,8 +3,8 @@ use mathlib.Core.Path.{sym, ap, ◌∙◌}
 use Rattle.certificate.specs.Check.{without_totals, checked_told}
 use Rattle.exports.proofs.answers.totals_of.Goals as goal
 
-pub returns-in-Totals : goal.returns-in-Totals
-returns-in-Totals c = ap checked_told (sym c.in-Totals.is)
+pub returns-in-Ok : goal.returns-in-Ok
+returns-in-Ok c = ap checked_told (sym c.in-Ok.is)
 
-pub returns-in-Refused : goal.returns-in-Refused
-returns-in-Refused c = ap without_totals c.refusing-refused.ensures ∙ ap checked_told (sym c.in-Refused.is)
+pub returns-in-Err : goal.returns-in-Err
+returns-in-Err c = ap without_totals c.refusing-refused.ensures ∙ ap checked_told (sym c.in-Err.is)

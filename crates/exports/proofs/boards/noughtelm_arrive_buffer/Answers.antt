@@ -4,4 +4,4 @@ use Rattle.exports.proofs.Answered.{told-done}
 use Rattle.exports.proofs.boards.noughtelm_arrive_buffer.Goals as goal
 
 pub returns : goal.returns
-returns c = told-done arrival_answer c.arrive_buffer-arrival.ensures c.arrival_answer.ensures
+returns c = told-done arrival_answer c.arrive_buffer-bids.ensures.answers c.bids_answer.ensures.arrival

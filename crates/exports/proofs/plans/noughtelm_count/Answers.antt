@@ -4,4 +4,4 @@ use Rattle.counting.specs.Call.{counted_told}
 use Rattle.exports.proofs.plans.noughtelm_count.Goals as goal
 
 pub returns : goal.returns
-returns c = c.counted_told.ensures ∙ ap counted_told c.count-answer.ensures
+returns c = c.weight_told.ensures.counted ∙ ap counted_told c.count.ensures

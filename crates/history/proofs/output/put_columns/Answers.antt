@@ -1,10 +1,6 @@
 -- `output::put_columns` meets its contract: the lines of the items after those of the bidders.
-use native.Mathlib.Omega.{arith}
-use Rattle.text.proofs.Puts.{put_then}
+use Rattle.text.proofs.Outs.{puts_then}
 use Rattle.history.proofs.output.put_columns.Goals as goal
 
-pub returns : goal.returns
-returns c =
-    let p = c.put_bidders-next.ensures in
-    let q = c.put_items.ensures in
-    (put_then p.0 q.0, omega (arith, p.1, q.1, c.requires))
+pub returns-clause-put : goal.returns-clause-put
+returns-clause-put c = puts_then c.put_bidders.ensures.put c.put_items.ensures.put

@@ -1,10 +1,6 @@
 -- `output::put_last` meets its contract: two lines.
-use native.Mathlib.Omega.{arith}
-use Rattle.text.proofs.Puts.{put_then, line-put}
+use Rattle.text.proofs.Outs.{puts_then}
 use Rattle.history.proofs.output.put_last.Goals as goal
 
-pub returns : goal.returns
-returns c =
-    let p = c.put_line-next.ensures in
-    let q = c.put_line.ensures in
-    (put_then (line-put (omega arith) p) (line-put (omega (arith, p.short)) q), omega (arith, p.short, q.short))
+pub returns-clause-put : goal.returns-clause-put
+returns-clause-put c = puts_then c.put_record.ensures.line c.put_record-2.ensures.line

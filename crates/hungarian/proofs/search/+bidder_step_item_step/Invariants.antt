@@ -4,7 +4,7 @@ use Rattle.hungarian.specs.Tree.{unvisited}
 use Rattle.hungarian.proofs.search.+bidder_step_item_step.Given as goal
 
 abbrev pub decreases-bidder_step : goal.decreases-bidder_step
-decreases-bidder_step l = unvisited l.visited.now + unvisited l.visited.now + 1
+decreases-bidder_step l = unvisited l.search.now.visited + unvisited l.search.now.visited + 1
 
 abbrev pub decreases-item_step : goal.decreases-item_step
-decreases-item_step l = unvisited l.visited.now + unvisited l.visited.now
+decreases-item_step l = unvisited l.search.now.visited + unvisited l.search.now.visited

@@ -1,26 +1,23 @@
 -- `column::put_padded` meets its contract. It calls itself with a column less.
-use mathlib.Core.Path.{◌∙◌, ap}
-use Prim.Native.Nat.{ℕ, ◌+◌, ◌-◌, ◌/◌}
-use native.Mathlib.Omega.{arith}
-use mathlib.Core.List.{[], ◌∷◌, ◌++◌}
-use lib.ListN.{replicate}
+use Rattle.std.proofs.Common.{◌≡◌, ℕ, ◌-◌, ◌/◌, ◌%◌, [], ◌∷◌, ◌++◌, ◌∙◌, ap, arith, replicate}
 use Rattle.text.specs.Print.{decimal}
-use Rattle.text.proofs.Puts.{put_then, put_as}
+use Rattle.text.proofs.Outs.{puts_then, puts_as}
 use Rattle.layout.specs.Limits.{blank}
 use Rattle.layout.specs.Page.{padded}
-use Rattle.layout.proofs.Columns.{padded-one, padded-more, padded-length}
+use Rattle.layout.proofs.Columns.{padded-one, padded-more}
 use Rattle.layout.proofs.column.+put_padded.Goals as goal
-
-pub returns-then-n-lt10 : goal.returns-then-n-lt10
-returns-then-n-lt10 t c =
-    let a = c.args in
-    let e = ap (λ (d : ℕ). replicate (a.width - 1) blank ++ (d ∷ [])) c.digit.ensures ∙ padded-one a.width a.n (omega arith) in
-    let p = put_as e (put_then c.put_blanks-next.ensures c.put_byte.ensures) in
-    (p, p.moved ∙ ap (λ (k : ℕ). a.at + k) (padded-length a.width a.n c.requires.1 c.requires.2))
+use Rattle.layout.proofs.column.+put_padded.Goals.{then-n-lt10, else-n-lt10}
 
 pub returns : goal.returns
 returns t c =
-    let a = c.args in
-    let e = ap (λ (d : ℕ). padded (a.width - 1) (decimal (a.n / 10)) ++ (d ∷ [])) c.digit-2.ensures ∙ padded-more a.width a.n (omega arith) in
-    let p = put_as e (put_then c.put_padded-next.ensures.0 c.put_byte-2.ensures) in
-    (p, p.moved ∙ ap (λ (k : ℕ). a.at + k) (padded-length a.width a.n c.requires.1 c.requires.2))
+    let w = c.args.width in
+    let n = c.args.n in
+    elim c.if-n-lt10.branch [
+      | then-n-lt10 b ↦
+          let m : n % 10 ≡ n = omega arith in
+          let e = ap (λ (d : ℕ). replicate (w - 1) blank ++ (d ∷ [])) (rw m at c.digit.ensures) ∙ padded-one w n (omega arith) in
+          puts_as e (puts_then b.put_blanks.ensures (rw b.out-is at c.put.ensures))
+      | else-n-lt10 b ↦
+          let e = ap (λ (d : ℕ). padded (w - 1) (decimal (n / 10)) ++ (d ∷ [])) c.digit.ensures ∙ padded-more w n (omega arith) in
+          puts_as e (puts_then b.put_padded.ensures (rw b.out-is at c.put.ensures))
+    ]

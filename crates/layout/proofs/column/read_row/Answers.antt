@@ -3,6 +3,4 @@ use Rattle.layout.proofs.Scans.{row_as}
 use Rattle.layout.proofs.column.read_row.Goals as goal
 
 pub returns : goal.returns
-returns c =
-    let a = c.args in
-    row_as a.text.now a.at _ _ _ c.value_at-item.ensures c.value_at-weight.ensures c.value_at-gain.ensures
+returns c = row_as c.args.line.now _ _ _ c.column_value.ensures c.column_value-2.ensures c.column_value-3.ensures

@@ -1,24 +1,21 @@
--- `clash::named_before` meets its contract: the bidders passed that name the item are counted.
-use mathlib.Core.Path.{◌≡◌, refl}
-use native.Mathlib.Omega.{arith}
-use lib.Dec.{eqb}
-use Rattle.duality.specs.Lists.{cells}
-use Rattle.places.specs.Places.{flag}
-use Rattle.matching.proofs.Sums.{sum-next}
-use borrow.Author.Rules.{rules}
+-- `clash::named_before` meets its contract: the bidders before that name the item are counted, and there are no more of them.
+use Rattle.std.proofs.Common.{ℕ, ◌∙◌, eqb, take, rules, tests, arith, length-take}
+use Rattle.std.proofs.lemmas.Iterator.{YieldsList-from_slice}
+use Rattle.std.proofs.lemmas.Iterator.Consumers.{YieldsList-from_filter, count_from_yields_List}
+use Rattle.std.proofs.lemmas.List.Sums.{length-filter, count_by-le-length}
+use Rattle.matching.proofs.Sums.{count_by-take}
 use Rattle.matching.proofs.clash.named_before.Goals as goal
 
-pub loop-h-init : goal.loop-h-init
-loop-h-init c = (search rules, refl, search rules)
+-- What the chain counts
+pub returns-clause-named : goal.returns-clause-named
+returns-clause-named c =
+    let xs = take c.args.bidder c.args.plan.now in
+    let n = count_from_yields_List _ _ c.count.ensures.ran (YieldsList-from_filter _ (λ x. eqb x c.args.item) (YieldsList-from_slice xs cc) c.filter.ensures.closure (λ x r q k. search (rules, tests))) in
+    n ∙ (length-filter _ xs ∙ count_by-take _ _ _ c.requires)
 
-pub loop-h-preserved : goal.loop-h-preserved
-loop-h-preserved c =
-    let a = c.args in
-    let one = c.once-named.ensures in
-    let next = sum-next (λ j. flag (eqb (cells a.plan.now j) a.item)) c.loop-h.h _ _ c.loop-h.invariant.1 one.0 in
-    (omega arith, next, omega (arith, one.1))
-
-pub returns : goal.returns
-returns c =
-    let e : c.loop-h.h ≡ c.args.bidder = omega arith in
-    rw (← e) (c.loop-h.invariant.1, c.loop-h.invariant.2)
+pub returns-clause-few : goal.returns-clause-few
+returns-clause-few c =
+    let xs = take c.args.bidder c.args.plan.now in
+    let test = λ (x : ℕ). eqb x c.args.item in
+    let n = count_from_yields_List _ c.count.result c.count.ensures.ran (YieldsList-from_filter _ test (YieldsList-from_slice xs cc) c.filter.ensures.closure (λ x r q k. search (rules, tests))) in
+    omega (arith, n, length-filter test xs, count_by-le-length test xs, length-take c.args.bidder c.args.plan.now, c.requires)

@@ -1,20 +1,13 @@
--- `clash::plan_verdict` meets its contract: what is left to test says the same as all.
+-- `clash::plan_verdict` meets its contract: the first cell that does not hold is told.
 use mathlib.Core.Path.{sym, ◌∙◌}
 use native.Mathlib.Numerals.{add-one}
-use Rattle.refusals.proofs.Places.{cell-start, cell-end, cell-on, cell-stops}
+use native.Mathlib.Omega.{arith}
+use Rattle.refusals.proofs.Places.{first_at, none_at}
 use Rattle.matching.proofs.clash.plan_verdict.Goals as goal
 
-pub loop-i-init : goal.loop-i-init
-loop-i-init c = cell-start
+pub returns-then-not-cell_holds-clause-verdict : goal.returns-then-not-cell_holds-clause-verdict
+returns-then-not-cell_holds-clause-verdict c =
+    rw add-one (first_at _ _ _ c.loop-i.i (omega arith) c.loop-i.invariant.0 (sym c.cell_holds.ensures.test ∙ c.if-not-cell_holds.true))
 
-pub returns-then-not-cell_holds : goal.returns-then-not-cell_holds
-returns-then-not-cell_holds c =
-    let clashes = sym c.cell_holds.ensures ∙ c.if-not-cell_holds.true in
-    rw add-one (cell-stops c.loop-i.invariant c.loop-i-test.true clashes)
-
-pub loop-i-preserved : goal.loop-i-preserved
-loop-i-preserved c =
-    cell-on c.loop-i.invariant c.loop-i-test.true (sym c.cell_holds.ensures ∙ c.if-not-cell_holds.false)
-
-pub returns : goal.returns
-returns c = cell-end c.loop-i.invariant c.loop-i-test.false
+pub returns-clause-verdict : goal.returns-clause-verdict
+returns-clause-verdict c = none_at _ _ _ (λ j l. c.loop-i.invariant.0 j (omega arith))

@@ -1,21 +1,15 @@
--- `clash::plan_verdict` meets its contract: what is left to test says the same as all.
-use Prim.Native.Nat.{suc, ◌-◌}
-use lib.ListN.{length}
+-- `clash::plan_verdict`: the cells passed hold.
+use mathlib.Core.Path.{◌≡◌}
+use mathlib.Core.Bool.{true}
+use Prim.Native.Nat.{ℕ, ◌≤◌, ◌<◌}
 use Rattle.duality.specs.Lists.{cells}
 use Rattle.places.specs.PlanTest.{cell_test_with}
-use Rattle.refusals.specs.declared.Refusal.TheVariants.{Clash}
-use Rattle.supply.specs.Board.{places_in}
-use Rattle.supply.specs.ByItem.{live_by}
-use Rattle.refusals.proofs.Places.{Passed}
+use Rattle.supply.specs.Board.{places_at}
+use Rattle.supply.specs.ByItem.{live}
 use Rattle.matching.proofs.clash.plan_verdict.Given as goal
 
 abbrev pub invariant-loop-i : goal.invariant-loop-i
 invariant-loop-i l =
-    Passed
-    (λ j. Clash (suc j))
-    (λ j. cell_test_with l.items.count (places_in l.items) (live_by l.items l.withdrawn l.weights) (cells l.plan) j (cells l.plan j))
-    (length l.plan)
-    l.i
-
-abbrev pub decreases-loop-i : goal.decreases-loop-i
-decreases-loop-i l = length l.plan - l.i
+    let b = l.sheet in
+    ((j : ℕ) → j < l.i → cell_test_with b.items.count (places_at b) (live b) (cells l.plan) j (cells l.plan j) ≡ true) ×
+    ((j : ℕ) → j < l.i → cells l.plan j ≤ b.items.count)

@@ -1,22 +1,29 @@
 -- `columns::least_price` meets its contract: a loop comes to the least of so many.
-use mathlib.Core.Path.{◌≡◌, refl}
-use Prim.Native.Nat.{◌+◌}
-use native.Mathlib.Omega.{arith}
+use Rattle.std.proofs.Common.{ap, ◌≡◌, ◌∙◌, ◌+◌, ◌-◌, length-take, length-drop, drop, refl, arith}
+use Rattle.std.proofs.lemmas.List.{get_or-take, get_or-drop}
 use Rattle.duality.specs.Lists.{cells}
+use Rattle.std.specs.Prelude.{min}
 use Rattle.supply.proofs.Reading.{least-next}
-use borrow.Author.Rules.{rules}
 use Rattle.supply.proofs.columns.least_price.Goals as goal
 
-pub loop-j-init : goal.loop-j-init
-loop-j-init c = (search rules, refl)
+pub loop-price-init : goal.loop-price-init
+loop-price-init c = refl
 
-pub loop-j-preserved : goal.loop-j-preserved
-loop-j-preserved c =
+pub loop-price-preserved : goal.loop-price-preserved
+loop-price-preserved c =
     let a = c.args in
-    let price = cells a.prices.now in
-    (omega arith, least-next (price a.from) c.loop-j.j _ _ (λ i. price (a.from + i)) c.loop-j.invariant.1 c.lesser-least.ensures)
+    let ps = a.prices.now in
+    let j = c.loop-price.price-index in
+    let n = a.from + a.places - a.from in
+    let size = length-take n (drop a.from ps) in
+    let read = get_or-take n (drop a.from ps) j 0 (omega arith) ∙ get_or-drop a.from ps j 0 in
+    least-next (cells ps a.from) j _ _ (λ i. cells ps (a.from + i)) c.loop-price.invariant (c.min-least.ensures ∙ ap (min c.loop-price.least) read)
 
 pub returns : goal.returns
 returns c =
-    let all : c.loop-j.j ≡ c.args.places = omega arith in
-    rw (← all) c.loop-j.invariant.1
+    let a = c.args in
+    let n = a.from + a.places - a.from in
+    let size = length-take n (drop a.from a.prices.now) in
+    let rest = length-drop a.from a.prices.now in
+    let all : c.loop-price.price-index ≡ a.places = omega arith in
+    rw (← all) c.loop-price.invariant

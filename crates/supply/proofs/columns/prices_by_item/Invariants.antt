@@ -1,6 +1,5 @@
 -- `columns::prices_by_item` meets its contract: the list is filled from its start.
 use mathlib.Core.Path.{◌≡◌}
-use Prim.Native.Nat.{◌-◌, ◌≤◌}
 use Rattle.duality.specs.Lists.{cells}
 use Rattle.places.specs.Total.{least_price}
 use Rattle.board.specs.Limits.{max_bidders}
@@ -10,7 +9,4 @@ use Rattle.supply.proofs.columns.prices_by_item.Given as goal
 
 abbrev pub invariant-loop-k : goal.invariant-loop-k
 invariant-loop-k l =
-    (l.k ≤ l.items.count) × (l.next ≡ start_in l.items l.k) × Filled max_bidders (least_price (places_in l.items) (cells l.prices)) l.k l.least
-
-abbrev pub decreases-loop-k : goal.decreases-loop-k
-decreases-loop-k l = l.items.count - l.k
+    (l.next ≡ start_in l.items l.k) × Filled max_bidders (least_price (places_in l.items) (cells l.prices)) l.k l.least

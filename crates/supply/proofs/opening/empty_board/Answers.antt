@@ -4,4 +4,4 @@ use Rattle.supply.proofs.opening.empty_board.Goals as goal
 
 pub returns : goal.returns
 returns c =
-    board-opened _ _ _ c.items_of-items.ensures c.sum_of.ensures.0 c.empty-auction.ensures
+    board-opened _ _ _ c.items_of-items.ensures c.sum_of.ensures.sum c.empty-auction.ensures

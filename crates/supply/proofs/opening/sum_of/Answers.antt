@@ -4,7 +4,7 @@ use Rattle.supply.proofs.Openings.{counts-sum}
 use Rattle.supply.proofs.opening.sum_of.Goals as goal
 
 pub sum-requires : goal.sum-requires
-sum-requires c = (omega arith, omega (arith, counts-sum c.requires))
+sum-requires c = record { part = omega arith; small = omega (arith, counts-sum c.requires) }
 
 pub returns : goal.returns
-returns c = (c.sum.ensures, omega (arith, counts-sum c.requires, c.sum.ensures))
+returns c = record { sum = c.sum.ensures; small = omega (arith, counts-sum c.requires, c.sum.ensures) }

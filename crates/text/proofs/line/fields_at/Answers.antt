@@ -1,45 +1,29 @@
--- `line::fields_at` meets its contract: each turn asks the reader for the field at its position and moves it past that field. Assumes nothing.
-use mathlib.Core.Path.{◌≡◌, sym, ◌∙◌, ap}
-use Prim.Native.Nat.{ℕ, ◌<◌}
-use native.Mathlib.Omega.{arith}
-use mathlib.Core.List.{List}
-use lib.ListN.{length}
-use denote.Ref.{Bor}
-use Rattle.text.specs.Reader.{tabbed_at}
-use Rattle.text.specs.declared.scan.Field.{Field}
-use Rattle.text.proofs.Fields.{gathered_none, gathered-more, gathered-all, falls}
+-- `line::fields_at` meets its contract: each turn asks the reader for the field at its position. Assumes nothing.
+use Rattle.std.proofs.Common.{ℕ, List, Bor, ap, ◌∙◌, sym, arith}
+use Rattle.text.proofs.Fields.{gathered_none, gathered-more, gathered-past, gathered-closed, falls, field_read, field_none}
 use Rattle.text.proofs.line.fields_at.Goals as goal
-
--- the field that was read, of the text
-of-text : {r s : List ℕ} (i : ℕ) {f : Field} → r ≡ s → f ≡ tabbed_at r i → tabbed_at s i ≡ f
-of-text i e g = sym (g ∙ ap (λ (t : List ℕ). tabbed_at t i) e)
+use Rattle.text.proofs.line.fields_at.Goals.{then-count-lt-KEPT, else-count-lt-KEPT}
 
 pub loop-number-init : goal.loop-number-init
-loop-number-init c = (ap (λ (b : Bor (List ℕ)). b.now) c.new-reader.ensures.0, rw c.new-reader.ensures.1 (gathered_none c.args.text.now c.args.at c.args.letter))
-
-pub returns-in_default : goal.returns-in_default
-returns-in_default c =
-    let i = c.loop-number.invariant in
-    c.closed.ensures ∙ gathered-all i.1 (of-text _ i.0 c.in_default.ensures)
-
-pub keep-requires : goal.keep-requires
-keep-requires c = c.loop-number.invariant.1.room
-
-pub overflow_add-count : goal.overflow_add-count
-overflow_add-count c =
-    let i = c.loop-number.invariant in
-    let h : c.loop-number.reader.at < length c.args.text.now = (falls _ _ _ _ (of-text _ i.0 c.in-Number.ensures)).0 in
-    omega (arith, i.1.few, h)
+loop-number-init c = (ap (λ (b : Bor (List ℕ)). b.now) c.new-reader.ensures.text, rw c.new-reader.ensures.at (gathered_none c.args.text.now c.args.at c.args.letter))
 
 pub loop-number-smaller : goal.loop-number-smaller
 loop-number-smaller c =
-    let i = c.loop-number.invariant in
-    let h : c.loop-number.reader.at < length c.args.text.now = (falls _ _ _ _ (of-text _ i.0 c.in-Number.ensures)).0 in
-    let k : c.loop-number.reader.at < c.past-reader.result.at = rw c.past-reader.ensures.1 (falls _ _ _ _ (of-text _ i.0 c.in-Number.ensures)).1 in
-    omega (arith, h, k)
+    let e = rw c.loop-number.invariant.0 at (field_read _ _ _ _ c.in-Some.ensures.number c.in-Some.ensures.at) in
+    omega (arith, falls c.args.text.now c.loop-number.reader.at c.in-Some.number c.next_field.new.self.at e)
 
 pub loop-number-preserved : goal.loop-number-preserved
 loop-number-preserved c =
     let i = c.loop-number.invariant in
-    let g = gathered-more i.1 _ _ (of-text _ i.0 c.in-Number.ensures) in
-    (ap (λ (b : Bor (List ℕ)). b.now) c.past-reader.ensures.0 ∙ i.0, rw (c.past-reader.ensures.1, c.keep.ensures) g)
+    let t = ap (λ (b : Bor (List ℕ)). b.now) c.in-Some.ensures.text ∙ i.0 in
+    let e = rw i.0 at (field_read _ _ _ _ c.in-Some.ensures.number c.in-Some.ensures.at) in
+    elim c.if-count-lt-KEPT.branch [
+      | then-count-lt-KEPT w ↦ (t, rw w.numbers-is (gathered-more i.1 _ _ e))
+      | else-count-lt-KEPT w ↦ (t, rw w.numbers-is (gathered-past i.1 _ _ e w.if-count-lt-KEPT.false))
+    ]
+
+pub returns-clause-line : goal.returns-clause-line
+returns-clause-line c =
+    let i = c.loop-number.invariant in
+    let n = field_none _ _ _ c.in_default.ensures.number c.in_default.ensures.at in
+    rw n.1 (gathered-closed i.1 (rw n.1 at (sym c.byte_at.ensures ∙ c.if-byte_at-ne-NEWLINE.false)))

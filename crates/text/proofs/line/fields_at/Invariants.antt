@@ -1,7 +1,5 @@
 -- `line::fields_at` meets its contract. The invariant: the fields so far were gathered, and the reader stands behind them. Assumes nothing.
-use mathlib.Core.Path.{◌≡◌}
-use Prim.Native.Nat.{◌-◌}
-use lib.ListN.{length}
+use Rattle.std.proofs.Common.{◌≡◌, ◌-◌, length}
 use Rattle.text.proofs.Fields.{Gathered}
 use Rattle.text.proofs.line.fields_at.Given as goal
 
