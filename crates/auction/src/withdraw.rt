@@ -32,7 +32,7 @@ pub fn withdraw_in(board: &mut Board, floors: &mut Floors, items: &[u64]) -> Res
         &board.weights,
         &mut board.state,
         floors,
-        places.as_slice(),
+        &places.numbers[..places.count],
     );
     Ok(bids)
 }

@@ -18,7 +18,7 @@ use Rattle.bidding.specs.Slides.{take_of, pick_of}
 use Rattle.bidding.specs.Leader.{second_in, edge_of, LeaderFits, Rounds, Offered, Rates, rated_weight}
 
 -- What a bar stands for
-second-some : (bar : ℕ) → (bar ≡ 0 → ⊥) → bar + 1 ≡ second_in bar
+pub second-some : (bar : ℕ) → (bar ≡ 0 → ⊥) → bar + 1 ≡ second_in bar
 second-some bar ne = rw (ne_eqb bar 0 ne) refl
 
 -- An edge with a weight

@@ -1,4 +1,4 @@
--- The loop of a chain over plain numbers: what is known at its head, and what the four steps of a bid make of it.
+-- The loop of a chain over the lists of a state: what is known at its head, and what the four steps of a bid make of it.
 use mathlib.Core.Path.{◌≡◌, refl, sym, ap, ◌∙◌}
 use mathlib.Core.Bool.{false, cond}
 use mathlib.Core.List.{List}

@@ -1,4 +1,4 @@
--- The state while a chain of bids runs: prices and gains as plain numbers, each so many q-ths of a penny.
+-- A state told by plain numbers: prices and gains, each so many q-ths of a penny. While a chain of bids runs the code changes the state's own lists.
 use Rattle.std.specs.Prelude.{List, map, ℕ}
 use Rattle.board.specs.declared.record.State.{State}
 use Rattle.board.specs.declared.units.Scaled.{Scaled}

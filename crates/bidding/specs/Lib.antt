@@ -1,5 +1,5 @@
--- The rule of the bid, the chain, what begins one, lists withdrawn; and the bid in the four steps of the slides, with what its code keeps: the state as
--- plain numbers, the leader of a pick, floors.
+-- The rule of the bid, the chain, what begins one, lists withdrawn; and the bid in the four steps of the slides, with what its code keeps: the leader of a
+-- pick, floors; and a state told by plain numbers.
 pub mod Potential
 pub mod Rule
 pub mod Waiting

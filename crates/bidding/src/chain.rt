@@ -11,22 +11,29 @@ use crate::rule::{Best, RatedRow, hand_over, raise, test_open};
 use board::record::{Auction, Holder, Market, State};
 use board::units::Scaled;
 
+// The state after a chain of bids, and how many the bids were.
+#[derive(Clone, Copy)]
+pub struct ChainEnd {
+    pub state: State,
+    pub bids: u64,
+}
+
 // The chain of bids that a bidder begins. The slide: "While ∃ v ∈ V unallocated". Its four steps in turn (rule.rt), until an item was free or nothing is
 // open. The floors are lent: they are those of the board before and after (`Floored`, asked here and of what calls it, since market and
-// prices lie in the board). Market, weights and state are lent as they lie in the board's record, whose
-// layout is C's; the chain writes the state and reads the others, so that they stay three.
+// prices lie in the board). Market and weights are lent as they lie in the board's record, whose layout is C's, and the state is its third part; the three
+// stay three. The state is handed over and comes back settled, with the count of the bids: document 01 asks for this of the chain's end.
 pub fn settle(
     market: &Market,
     weights: &[u32; Auction::MAX_CELLS],
-    state: &mut State,
+    mut state: State,
     floors: &mut Floors,
     bidder: usize,
-) -> u64
-    requires ready { Ready (auction market.now weights.now state.old) bidder }
-    requires floored { Floored market.now (scaled_at state.old.price) floors.old }
-    ensures chain { done (after_chain (auction market.now weights.now state.new) result) ≡
-        settle_of (fuel_of (auction market.now weights.now state.old)) (auction market.now weights.now state.old) bidder 0 }
-    ensures floored { Floored market.now (scaled_at state.new.price) floors.new }
+) -> ChainEnd
+    requires ready { Ready (auction market.now weights.now state) bidder }
+    requires floored { Floored market.now (scaled_at state.price) floors.old }
+    ensures chain { done (after_chain (auction market.now weights.now result.state) result.bids) ≡
+        settle_of (fuel_of (auction market.now weights.now state)) (auction market.now weights.now state) bidder 0 }
+    ensures floored { Floored market.now (scaled_at result.state.price) floors.new }
 {
     let items = market.items as usize;
     let slack = market.slack;
@@ -54,7 +61,7 @@ pub fn settle(
             },
         ) = best
         else {
-            return bids;
+            return ChainEnd { state, bids };
         };
         let lead = Scaled(utility.0 - second.0);
         raise(&mut state.price, floors, item, weight, lead, slack);
@@ -62,7 +69,7 @@ pub fn settle(
         bids += 1;
         // The form of document 01, and so Holder has words of its own in place of an Option's.
         let Holder::Held(displaced) = holder else {
-            return bids;
+            return ChainEnd { state, bids };
         };
         next = displaced;
     }
@@ -85,7 +92,9 @@ pub(crate) fn settle_all(
     let mut bids: u64 = 0;
     for i in 0..market.arrived as usize {
         if waiting[i] {
-            bids += settle(market, weights, state, floors, i);
+            let end = settle(market, weights, *state, floors, i);
+            *state = end.state;
+            bids += end.bids;
         }
     }
     bids

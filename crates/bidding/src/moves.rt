@@ -43,7 +43,9 @@ pub fn enter(
     let newcomer = market.arrived as usize;
     file_row(weights, newcomer * Auction::MAX_ITEMS, row);
     market.arrived += 1;
-    settle(market, weights, state, floors, newcomer)
+    let end = settle(market, weights, *state, floors, newcomer);
+    *state = end.state;
+    end.bids
 }
 
 // "All go first": the items leave the live edges, and whoever held one is unplaced and marked. Nobody bids. A mark for each bidder that held one.

@@ -17,7 +17,7 @@ use Rattle.bidding.proofs.Potentials.{potential-within}
 use Rattle.bidding.proofs.Chains.{chain-once}
 use Rattle.bidding.proofs.Rolls.{displaced-in-order, order_once}
 use Rattle.bidding.proofs.AboveFloors.{open-above-floor}
-use Rattle.bidding.proofs.Slides.{test-means, pick-means, test-then-pick, plain-steps, until_now, bid-by-slides, steps-in-turn, chain-by-slides}
+use Rattle.bidding.proofs.Slides.{test-means, pick-means, test-then-pick, state-steps, plain-steps, until_now, bid-by-slides, steps-in-turn, chain-by-slides}
 use Rattle.bidding.proofs.Vacating.{all_go}
 use Rattle.bidding.proofs.Withdrawing.{chains_once, withdrawn-is-chains, list-of-one}
 use Rattle.auction.proofs.Demand1.{open-demand-1, arrive-demand-1, withdraw-demand-1, read-out-demand-1, call-orders}
@@ -170,6 +170,7 @@ bid-as-slides =
       picks = pick-means;
       chosen = test-then-pick;
       floors = open-above-floor;
+      lists = state-steps;
       plain = plain-steps;
       until_now = until_now;
       bid = bid-by-slides;

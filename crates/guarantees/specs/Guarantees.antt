@@ -14,7 +14,8 @@ use Rattle.supply.specs.Laws.{PlacesAsItem, SoundOverPlaces, OnesAsAuction}
 use Rattle.refusals.specs.Codes.{CodesApart}
 use Rattle.refusals.specs.Told.{ToldApart}
 use Rattle.bidding.specs.RuleLaws.{BestIsChosen, ChosenOnce, SecondOnce, SecondWithin, TiesByWeight, PairsWhole, RuleAdmissible, PotentialWithin, ChainOnce}
-use Rattle.bidding.specs.SlideLaws.{TestMeans, PickMeans, TestThenPick, OpenAboveFloor, PlainSteps, UntilNow, BidBySlides, StepsInTurn, ChainBySlides}
+use Rattle.bidding.specs.SlideLaws.{TestMeans, PickMeans, TestThenPick, OpenAboveFloor, StateSteps, PlainSteps}
+use Rattle.bidding.specs.SlideLaws.{UntilNow, BidBySlides, StepsInTurn, ChainBySlides}
 use Rattle.bidding.specs.WithdrawalLaws.{AllGo, DisplacedInOrder, OrderOnce, ChainsOnce, WithdrawnIsChains, ListOfOne}
 use Rattle.auction.specs.OneItem.{OneAsBefore, NoneChanged}
 use Rattle.auction.specs.EnoughItems.{EnoughItems}
@@ -198,7 +199,8 @@ pub record BidAsSlides : Type 0 where
   pub chosen : TestThenPick
   -- The code tests a weight against the greatest that is not open at its item's price (the floor), which is the same
   pub floors : OpenAboveFloor
-  -- The last two, on the lists of plain numbers that the code has, leave the board that they leave by definition
+  -- The last two, on the lists that the code has, which are a state's, leave the board that they leave by definition; and so on lists of plain numbers
+  pub lists : StateSteps
   pub plain : PlainSteps
   -- The bid as the rule defines it, since R-7 the bigger one, is that of which chains are made
   pub until_now : UntilNow

@@ -1,6 +1,6 @@
 // The lines of the output, written one after the other.
-ghost use Rattle.std.specs.Prelude.{ℕ, ◌+◌, ◌*◌, ◌≤◌, ◌<◌};
-ghost use Rattle.text.specs.Limits.{max_line};
+ghost use Rattle.std.specs.Prelude.{◌≡◌, ℕ, ◌+◌, ◌*◌, ◌≤◌, ◌<◌};
+ghost use Rattle.text.specs.Limits.{max_line, max_at};
 ghost use Rattle.text.specs.Out.{Puts};
 ghost use Rattle.duality.specs.Lists.{cells};
 ghost use Rattle.board.specs.Limits.{max_items, max_bidders};
@@ -24,22 +24,24 @@ fn put_bidders(
     gains: &[u64; Auction::MAX_BIDDERS],
     count: usize,
 )
-    requires { count ≤ max_bidders }
+    requires count { count ≤ max_bidders }
+    requires at { out.old.at ≡ 0 }
     ensures put { Puts out.old out.new (bidder_lines (cells plan.now) (cells gains.now) count) }
     ensures few { out.new.at ≤ out.old.at + max_line * count }
 {
     for i in 0..count {
-        out.put_record(b'P', &[i as u64 + 1, plan[i], gains[i]]);
+        out.put_line(b'P', &[i as u64 + 1, plan[i], gains[i]]);
     }
 }
 
 // "`Y` kettle, price (withdrawn ones omitted)": the line of an item.
 fn put_item(out: &mut Out<'_>, withdrawn: bool, number: u64, price: u64)
+    requires { out.old.at ≤ max_at }
     ensures put { Puts out.old out.new (item_line withdrawn number price) }
     ensures few { out.new.at ≤ out.old.at + max_line }
 {
     if !withdrawn {
-        out.put_record(b'Y', &[number, price]);
+        out.put_line(b'Y', &[number, price]);
     }
 }
 
@@ -50,7 +52,8 @@ fn put_items(
     withdrawn: [u8; Auction::MAX_ITEMS],
     prices: &[u64; Auction::MAX_BIDDERS],
 )
-    requires { Fits items × ((k : ℕ) → k < items.count → start_in items k < max_items) }
+    requires items { Fits items × ((k : ℕ) → k < items.count → start_in items k < max_items) }
+    requires at { out.old.at ≤ max_line * max_bidders }
     ensures put { Puts out.old out.new (item_lines (gone_by items withdrawn) (cells prices.now) items.count) }
     ensures few { out.new.at ≤ out.old.at + max_line * items.count }
 {
@@ -62,7 +65,9 @@ fn put_items(
 
 // The lines of the bidders, and of the items.
 pub(crate) fn put_columns(out: &mut Out<'_>, columns: Columns, items: Items, market: Market)
-    requires { (market.arrived ≤ max_bidders) × Fits items × ((k : ℕ) → k < items.count → start_in items k < max_items) }
+    requires bidders { market.arrived ≤ max_bidders }
+    requires items { Fits items × ((k : ℕ) → k < items.count → start_in items k < max_items) }
+    requires at { out.old.at ≡ 0 }
     ensures put { Puts out.old out.new (column_lines columns items market) }
     ensures few { out.new.at ≤ out.old.at + max_line * (max_bidders + max_items) }
 {
@@ -72,9 +77,10 @@ pub(crate) fn put_columns(out: &mut Out<'_>, columns: Columns, items: Items, mar
 
 // "`T` worth, sum of prices and gains, bids in all; `E` greatest worth".
 pub(crate) fn put_last(out: &mut Out<'_>, weight: Pence, sum: Scaled, bids: u64, greatest: Pence)
+    requires { out.old.at ≤ max_line * (max_bidders + max_items) }
     ensures put { Puts out.old out.new (last_lines weight.0 sum.0 bids greatest.0) }
     ensures few { out.new.at ≤ out.old.at + max_line * 2 }
 {
-    out.put_record(b'T', &[weight.0, sum.0, bids]);
-    out.put_record(b'E', &[greatest.0]);
+    out.put_line(b'T', &[weight.0, sum.0, bids]);
+    out.put_line(b'E', &[greatest.0]);
 }

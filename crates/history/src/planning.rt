@@ -95,7 +95,7 @@ pub(crate) fn put_refusal(number: u64, line: u64, page: &mut [u8]) -> usize
     ensures few { result ≤ max_line }
 {
     let mut out = Out::new(page);
-    out.put_record(b'R', &[number, line]);
+    out.put_line(b'R', &[number, line]);
     out.at
 }
 

@@ -17,6 +17,11 @@ use thiserror::Error;
 // The rows between two headings.
 pub const ROWS_TO_HEADING: usize = 40;
 
+// Byte 12, before each heading but the first.
+pub const FEED: u8 = 12;
+
+const _: () = prove!(NEXT_HEADING[0] == FEED);
+
 // The rows of a page.
 pub type Rows = ArrayVec<Row, { Auction::MAX_BIDDERS }>;
 

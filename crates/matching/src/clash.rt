@@ -12,13 +12,18 @@ ghost use Rattle.matching.specs.Clash.{clash_checks};
 use crate::live::LiveSheet;
 use refusals::Refusal;
 
-// How many bidders before one name an item.
+// How many bidders before one name an item. Cell by cell: by an iterator's `filter` and `count` two plans that are one take over a quarter more time to
+// compare.
 fn named_before(plan: &[u64], bidder: usize, item: u64) -> usize
     requires { bidder ≤ length plan.now }
     ensures named { result ≡ count_to bidder (λ h. eqb (cells plan.now h) item) }
     ensures few { result ≤ bidder }
 {
-    plan[..bidder].iter().filter(|&&cell| cell == item).count()
+    let mut named = 0;
+    for h in 0..bidder {
+        named += usize::from(plan[h] == item);
+    }
+    named
 }
 
 // A bidder's cell: 0, or an item with a live edge to it that has more places than earlier bidders name it.

@@ -7,8 +7,8 @@ use native.Mathlib.Nat.{add-zero, not-suc-le-zero}
 use native.Mathlib.Numerals.{add-one}
 use native.Mathlib.Decide.{dec_lt}
 use native.Mathlib.Omega.{arith}
-use lib.ListN.{length, get_or, replicate, length-append, length-replicate}
-use lib.Seq.{get_or-append-add}
+use lib.ListN.{length, get_or, set, take, replicate, length-append, length-replicate}
+use lib.Seq.{take-suc-set, get_or-append-add}
 use Rattle.duality.specs.Lists.{cells}
 use Rattle.duality.proofs.Below.{one_more}
 use Rattle.places.specs.Places.{AtItem}
@@ -53,10 +53,13 @@ pub numbers-none : (a : ℕ) → numbers_from a 0 ≡ []
 unfolding numbers_from
 numbers-none a = refl
 
--- A list with so many numbers after it, and the next one put after these
-pub numbers-more : (base l m : List ℕ) (a j : ℕ) → l ≡ base ++ numbers_from a j → m ≡ l ++ ((a + j + 1) ∷ []) → m ≡ base ++ numbers_from a (j + 1)
+-- A list with so many numbers after it, and the next one stored
+pub numbers-next : (base l : List ℕ) (a j at : ℕ) → at < length l → take at l ≡ base ++ numbers_from a j →
+    take (at + 1) (set l at (a + j + 1)) ≡ base ++ numbers_from a (j + 1)
 unfolding numbers_from
-numbers-more base l m a j e f = rw (add-one j) (f ∙ rw (e, add-one (a + j)) (append_assoc base (numbers_from a j) (suc (a + j) ∷ [])))
+numbers-next base l a j at low e =
+    rw (add-one at, add-one j, add-one (a + j))
+    (take-suc-set l at (suc (a + j)) low ∙ rw e (append_assoc base (numbers_from a j) (suc (a + j) ∷ [])))
 
 -- A cell of the first of two lists
 front-cell : (l m : List ℕ) (j : ℕ) → j < length l → get_or (l ++ m) j 0 ≡ get_or l j 0
@@ -113,9 +116,11 @@ named-few items item (suc n) h =
     omega (arith, named-length items item n, named-before items item (suc n) h n (omega arith), named_in items item (suc n) h n (omega arith))
 
 -- One item more: its places come after those that are named
-pub named_more : (items : Items) (item : ℕ → ℕ) (i a p : ℕ) (l m : List ℕ) → l ≡ places_named items item i →
-    a ≡ start_in items (item i - 1) → p ≡ places_in items (item i - 1) → m ≡ l ++ numbers_from a p → m ≡ places_named items item (i + 1)
-named_more items item i a p l m el ea ep em = rw (el, ea, ep) at em ∙ sym (named-next items item i)
+pub named_more : (items : Items) (item : ℕ → ℕ) (i a p c d : ℕ) (l m : List ℕ) → c ≡ length (places_named items item i) → take c l ≡ places_named items item i →
+    a ≡ start_in items (item i - 1) → p ≡ places_in items (item i - 1) → d ≡ c + p → take d m ≡ take c l ++ numbers_from a p →
+    (d ≡ length (places_named items item (i + 1))) × (take d m ≡ places_named items item (i + 1))
+named_more items item i a p c d l m ec el ea ep ed em =
+    (rw (add-one i) (omega (arith, named-length items item i)), rw (el, ea, ep) at em ∙ sym (named-next items item i))
 
 -- A cell of the places of n + 1 items: one of the first n, or one of the last item's places
 module _ (items : Items) (item : ℕ → ℕ) (n : ℕ) where

@@ -72,7 +72,7 @@ impl<'a> Out<'a> {
         self.put(digit(n % 10));
     }
 
-    // A line of a letter and its fields; nothing where it would start past MAX_AT. docs/PROMISES.md names it; the lines of a plan are put by `put_record`.
+    // A line of a letter and its fields; nothing where it would start past MAX_AT. A plan and a refusal are printed in such lines.
     pub fn put_line(&mut self, letter: u8, fields: &[u64])
         ensures line { self.old.at ≤ max_at → Puts self.old self.new (line_of letter fields.now) }
         ensures past { max_at < self.old.at → Puts self.old self.new [] }

@@ -46,14 +46,14 @@ spread_items-places-requires c =
 pub release-bids-requires : goal.release-bids-requires
 release-bids-requires c = record {
   sound = c.requires.sound.auction;
-  listed = rw (c.as_slice.ensures.value ∙ c.spread_items-places.ensures) (places-listed c.args.board.now c.args.items.now c.requires.sound (listable c.args.board.now c.args.items.now (tested _ c.new.ensures c.items_verdict.ensures c.in_ok-items_verdict.was)));
+  listed = rw c.spread_items-places.ensures.numbers (places-listed c.args.board.now c.args.items.now c.requires.sound (listable c.args.board.now c.args.items.now (tested _ c.new.ensures c.items_verdict.ensures c.in_ok-items_verdict.was)));
 }
 
 pub returns-clause-answers : goal.returns-clause-answers
 returns-clause-answers c =
     withdraw-left c.args.board.now _ ((sound-decides _).complete c.requires.sound) (tested _ c.new.ensures c.items_verdict.ensures c.in_ok-items_verdict.was) _
     (after_chain (auction c.release-bids.new.market c.args.board.now.weights c.release-bids.new.state) c.release-bids.result)
-    (c.as_slice.ensures.value ∙ c.spread_items-places.ensures) c.release-bids.ensures.withdrawn
+    c.spread_items-places.ensures.numbers c.release-bids.ensures.withdrawn
 
 pub returns-in_err-items_verdict-clause-answers : goal.returns-in_err-items_verdict-clause-answers
 returns-in_err-items_verdict-clause-answers c =

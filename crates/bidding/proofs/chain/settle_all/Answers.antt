@@ -12,23 +12,23 @@ use Rattle.bidding.proofs.chain.settle_all.Goals.{then-waiting-i, else-waiting-i
 pub loop-i-init : goal.loop-i-init
 loop-i-init c = (between_none c.requires.waiting, c.requires.floored)
 
-pub settle-bids-requires : goal.settle-bids-requires
-settle-bids-requires c =
+pub settle-end-requires : goal.settle-end-requires
+settle-end-requires c =
     let inv = c.loop-i.invariant in
     record { ready = between-ready inv.0 c.loop-i-test.true (c.if-waiting-i.true); floored = inv.1 }
 
 pub overflow_add-bids : goal.overflow_add-bids
 overflow_add-bids c =
-    omega (arith, between-fits (between-on c.loop-i.invariant.0 c.loop-i-test.true (c.if-waiting-i.true) _ _ c.settle-bids.ensures.chain))
+    omega (arith, between-fits (between-on c.loop-i.invariant.0 c.loop-i-test.true (c.if-waiting-i.true) _ _ c.settle-end.ensures.chain))
 
 pub loop-i-preserved : goal.loop-i-preserved
 loop-i-preserved c = (
   rw (add-one c.loop-i.i) (elim c.if-waiting-i.branch [
-    | then-waiting-i w ↦ rw (w.state-is, w.bids-is) (between-on c.loop-i.invariant.0 c.loop-i-test.true (w.if-waiting-i.true) _ _ w.settle-bids.ensures.chain)
+    | then-waiting-i w ↦ rw (w.state-is, w.bids-is) (between-on c.loop-i.invariant.0 c.loop-i-test.true (w.if-waiting-i.true) _ _ w.settle-end.ensures.chain)
     | else-waiting-i w ↦ rw (w.state-is, w.bids-is) (between-off c.loop-i.invariant.0 c.loop-i-test.true (w.if-waiting-i.false))
   ]),
   elim c.if-waiting-i.branch [
-    | then-waiting-i w ↦ rw (w.state-is, w.floors-is) w.settle-bids.ensures.floored
+    | then-waiting-i w ↦ rw (w.state-is, w.floors-is) w.settle-end.ensures.floored
     | else-waiting-i w ↦ rw (w.state-is, w.floors-is) c.loop-i.invariant.1
   ],
 )

@@ -5,9 +5,9 @@ use Rattle.bidding.proofs.Starts.{arrival-ready}
 use Rattle.bidding.proofs.Moving.{entered-as}
 use Rattle.bidding.proofs.moves.enter.Goals as goal
 
-pub settle-requires : goal.settle-requires
+pub settle-end-requires : goal.settle-end-requires
 unfolding entered
-settle-requires c =
+settle-end-requires c =
     let p = c.requires in
     record {
       ready = rw c.file_row.ensures (arrival-ready p.sound p.room p.row);
@@ -16,6 +16,6 @@ settle-requires c =
 
 pub returns : goal.returns
 returns c = record {
-  arrived = entered-as (auction c.args.market.now c.args.weights.now c.args.state.now) _ _ _ c.file_row.ensures c.settle.ensures.chain;
-  floored = c.settle.ensures.floored;
+  arrived = entered-as (auction c.args.market.now c.args.weights.now c.args.state.now) _ _ _ c.file_row.ensures c.settle-end.ensures.chain;
+  floored = c.settle-end.ensures.floored;
 }

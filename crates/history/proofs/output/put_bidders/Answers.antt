@@ -13,6 +13,8 @@ loop-i-preserved c =
     let a = c.args in
     let i = c.loop-i.invariant in
     record {
-      put = puts_as (bidder-more (cells a.plan.now) (cells a.gains.now) c.loop-i.i) (puts_then i.put c.put_record.ensures.line);
-      few = omega (arith, i.few, c.put_record.ensures.short (omega arith));
+      put =
+          puts_as (bidder-more (cells a.plan.now) (cells a.gains.now) c.loop-i.i)
+          (puts_then i.put (c.put_line.ensures.line (omega (arith, i.few, c.requires.count, c.requires.at))));
+      few = omega (arith, i.few, c.put_line.ensures.short (omega arith));
     }

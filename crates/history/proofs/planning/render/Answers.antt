@@ -46,11 +46,15 @@ pub put_columns-requires : goal.put_columns-requires
 put_columns-requires c =
     let sound : Sound c.args.board.now = c.requires in
     let b = c.args.board.now in
-    let s = sound in (
-      s.auction.arrived,
-      sound-fits b s,
-      (λ k l. omega (arith, (places-as-item b k (start_in b.items k) s l (first-place b k s l)).below, s.auction.items.1)),
-    )
+    let s = sound in
+    record {
+      bidders = s.auction.arrived;
+      items = (sound-fits b s, λ k l. omega (arith, (places-as-item b k (start_in b.items k) s l (first-place b k s l)).below, s.auction.items.1));
+      at = c.new-out.ensures.at;
+    }
+
+pub put_last-requires : goal.put_last-requires
+put_last-requires c = omega (arith, c.put_columns.ensures.few, c.new-out.ensures.at)
 
 pub returns-clause-put : goal.returns-clause-put
 returns-clause-put c =

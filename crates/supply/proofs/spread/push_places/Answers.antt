@@ -1,20 +1,27 @@
 -- `spread::push_places` meets its contract: number by number.
+use mathlib.Core.Path.{sym, ◌∙◌}
 use mathlib.Core.List.{append-nil}
-use Rattle.std.proofs.Common.{ap, sym, length, length-append, arith}
-use Rattle.supply.specs.Spread.{numbers_from}
-use Rattle.supply.proofs.Spreading.{numbers-none, numbers-length, numbers-more}
+use native.Mathlib.Omega.{arith}
+use borrow.Author.Rules.{rules}
+use lib.ListN.{take, length-set}
+use Rattle.supply.proofs.Spreading.{numbers-none, numbers-next}
 use Rattle.supply.proofs.spread.push_places.Goals as goal
 
 pub loop-j-init : goal.loop-j-init
-loop-j-init c = sym (rw (numbers-none c.args.from) (append-nil c.args.named.now.items))
-
-pub push-requires : goal.push-requires
-push-requires c =
-    let front = c.args.named.now.items in
-    let size = ap length c.loop-j.invariant in
-    let more = length-append front (numbers_from c.args.from c.loop-j.j) in
-    let row = numbers-length c.args.from c.loop-j.j in
-    (omega arith, omega (arith, c.requires.room))
+loop-j-init c =
+    (search rules, search rules, sym (rw (numbers-none c.args.from) (append-nil (take c.args.named.now.count c.args.named.now.numbers))))
 
 pub loop-j-preserved : goal.loop-j-preserved
-loop-j-preserved c = numbers-more _ _ _ c.args.from c.loop-j.j c.loop-j.invariant c.push.ensures.items
+loop-j-preserved c =
+    let named = c.args.named.now in (
+      length-set c.loop-j.named.numbers c.loop-j.named.count _ ∙ c.loop-j.invariant.0,
+      omega arith,
+      numbers-next
+          (take named.count named.numbers)
+          c.loop-j.named.numbers
+          c.args.from
+          c.loop-j.j
+          c.loop-j.named.count
+          (omega arith)
+          c.loop-j.invariant.2,
+    )

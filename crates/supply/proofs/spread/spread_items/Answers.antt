@@ -1,15 +1,17 @@
 -- `spread::spread_items` meets its contract: the places of one item after another.
-use mathlib.Core.Path.{◌≡◌, ap}
+use mathlib.Core.Path.{◌≡◌, sym, ap}
 use Prim.Native.Nat.{◌-◌}
 use native.Mathlib.Omega.{arith}
 use lib.ListN.{length}
 use Rattle.duality.specs.Lists.{cells}
-use Rattle.supply.proofs.Spreading.{named_none, named-before, named_in, named_more}
-use Rattle.std.proofs.Common.{sym, ◌∙◌}
+use Rattle.supply.specs.Spread.{places_named}
+use Rattle.supply.proofs.Spreading.{named_none, named-before, named_in, named-few, named_more}
 use Rattle.supply.proofs.spread.spread_items.Goals as goal
 
 pub loop-item-init : goal.loop-item-init
-loop-item-init c = c.new-named.ensures ∙ sym (named_none c.args.items (cells c.args.list.now))
+loop-item-init c =
+    let e = sym (named_none c.args.items (cells c.args.list.now)) in
+    (ap length e, e)
 
 pub overflow_sub-k : goal.overflow_sub-k
 overflow_sub-k c = (c.requires.listable.within c.loop-item.item-index (omega arith)).low
@@ -30,7 +32,7 @@ push_places-requires c =
     let own = c.requires.starts (numbers i - 1) (omega (arith, w.low, w.high)) in
     let all = named_in items numbers (length c.args.list.now) l i (omega arith) in
     let before = named-before items numbers (length c.args.list.now) l i (omega arith) in
-    let size = ap length c.loop-item.invariant in
+    let size = c.loop-item.invariant.0 in
     let own_places = c.count_in.ensures.count in
     record { room = omega (arith, c.requires.fits.all); among = omega (arith, c.requires.fits.all) }
 
@@ -40,9 +42,19 @@ loop-item-preserved c =
     let w = c.requires.listable.within i (omega arith) in
     let numbers = cells c.args.list.now in
     let own = c.requires.starts (numbers i - 1) (omega (arith, w.low, w.high)) in
-    named_more c.args.items numbers i _ _ _ _ c.loop-item.invariant own c.count_in.ensures.count c.push_places.ensures
+    let inv = c.loop-item.invariant in
+    let push = c.push_places.ensures in
+    named_more c.args.items numbers i _ _ _ _ _ _ inv.0 inv.1 own c.count_in.ensures.count push.count push.numbers
 
-pub returns : goal.returns
-returns c =
+pub returns-clause-few : goal.returns-clause-few
+returns-clause-few c =
+    let list = c.args.list.now in
+    let all : c.loop-item.item-index ≡ length list = omega arith in
+    let few = named-few c.args.items (cells list) (length list) c.requires.listable in
+    let e : c.loop-item.named.count ≡ length (places_named c.args.items (cells list) (length list)) = rw (← all) c.loop-item.invariant.0 in
+    omega (arith, few, e, c.requires.fits.all)
+
+pub returns-clause-numbers : goal.returns-clause-numbers
+returns-clause-numbers c =
     let all : c.loop-item.item-index ≡ length c.args.list.now = omega arith in
-    rw (← all) c.loop-item.invariant
+    rw (← all) c.loop-item.invariant.1
